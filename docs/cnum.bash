@@ -1,4 +1,4 @@
-# Completions of cnum for bash. Written by tests/manual from the help of the program.
+# Completions of cnum for bash. Written by tests/texts/manual from the help of the program.
 _cnum() {
     local current=${COMP_WORDS[COMP_CWORD]} previous=${COMP_WORDS[COMP_CWORD - 1]}
     local options values= arguments at words=()

@@ -1,4 +1,4 @@
-# Completions of cnum for fish. Written by tests/manual from the help of the program.
+# Completions of cnum for fish. Written by tests/texts/manual from the help of the program.
 # The words before the cursor, without options and their values.
 function __cnum_words
     set -l is_value no

@@ -1,7 +1,7 @@
 #!/usr/bin/env python3
-"""Checks a certificate for the consensus number of a type, or that this number is infinite: check.py TABLE CERTIFICATE,
-or check.py TABLE --infinite STATE ONE MANY. It prints `ok`, with status 0, or tells what is wrong, with status 1.
-It needs Python 3.11 alone. It follows docs/FORMATS.md and docs/DEFINITIONS.md, and shares no line with the program."""
+"""usage: check.py TABLE CERTIFICATE | TABLE --infinite STATE ONE MANY
+Checks a certificate for the consensus number of a type, or that it is infinite. Prints `ok`, with status 0, or what is wrong, with
+status 1. Needs Python 3.11 alone. Follows docs/FORMATS.md and docs/DEFINITIONS.md, and shares no line with the program."""
 import itertools, json, pathlib, re, sys, tomllib
 
 def demand(holds, wrong):
@@ -77,4 +77,4 @@ def fault(table, *words):  # what is wrong, or None
         return f"wrong: {wrong}"
 
 if __name__ == "__main__":
-    sys.exit(__doc__ if len(sys.argv) < 3 else fault(*sys.argv[1:]) or print("ok"))
+    sys.exit(print(__doc__) if sys.argv[1:] == ["--help"] else __doc__ if len(sys.argv) < 3 else fault(*sys.argv[1:]) or print("ok"))

@@ -5,7 +5,7 @@ import re
 FILES, LISTS = ("CERT", "OBJECT", "FILE"), ("INPUTS", "SCHEDULE", "EVENTS", "CALLS")
 
 BASH_HEAD = """\
-# Completions of cnum for bash. Written by tests/manual from the help of the program.
+# Completions of cnum for bash. Written by tests/texts/manual from the help of the program.
 _cnum() {
     local current=${COMP_WORDS[COMP_CWORD]} previous=${COMP_WORDS[COMP_CWORD - 1]}
     local options values= arguments at words=()
@@ -86,7 +86,7 @@ def bash(top, helps):
 
 ZSH_HEAD = """\
 #compdef cnum
-# Completions of cnum for zsh. Written by tests/manual from the help of the program.
+# Completions of cnum for zsh. Written by tests/texts/manual from the help of the program.
 _cnum_commands() {
     local -a commands=(
 COMMANDS
@@ -162,7 +162,7 @@ def zsh(top, helps):
 
 
 FISH_HEAD = """\
-# Completions of cnum for fish. Written by tests/manual from the help of the program.
+# Completions of cnum for fish. Written by tests/texts/manual from the help of the program.
 # The words before the cursor, without options and their values.
 function __cnum_words
     set -l is_value no

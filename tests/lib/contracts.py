@@ -1,5 +1,5 @@
 """What the sources say: the functions with their contracts, the definitions that these go by, and the proofs that one crate
-cites from another. tests/pages compares the pages with it."""
+cites from another. tests/repository/pages compares the pages with it."""
 import collections
 import re
 

@@ -1,7 +1,7 @@
 """What carries a promise, from the sources. Above each clause that carries the promise KEY, or above a function all of whose
 contract does, stands a mark: the line `// promise: KEY`, or with the names that the page tells of it `// promise: KEY (NAME: PART, ..)`.
 Lines that begin with `//     ` go on with a mark. In docs/PROMISES.md the cell of the promise begins with the calls that have its
-marks, behind which stands `<!--KEY-->`, as tests/pages writes them. What follows there is written by hand."""
+marks, behind which stands `<!--KEY-->`, as tests/repository/pages writes them. What follows there is written by hand."""
 import collections
 import functools
 import re

@@ -1,5 +1,5 @@
-"""The one reader of Rattle's sources: their tokens, the items around each, and their functions with the contracts. tests/pages,
-tests/sources and tests/attack read by it."""
+"""The one reader of Rattle's sources: their tokens, the items around each, and their functions with the contracts. tests/repository/pages,
+tests/repository/sources and tests/attack read by it."""
 import collections
 import re
 

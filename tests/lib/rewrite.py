@@ -1,4 +1,4 @@
-"""Writes the expectations of the tables of tests/rows anew, in the places where they stand."""
+"""Writes the expectations of the tables of tests/texts/rows anew, in the places where they stand."""
 import difflib
 import re
 import tomllib

@@ -1,4 +1,4 @@
-"""The tables of tests/rows: what each row hands to the program, and what has to come of it.
+"""The tables of tests/texts/rows: what each row hands to the program, and what has to come of it.
 
 A file holds tables. Each is one command with its rows:
   about     what the rows show
@@ -134,8 +134,8 @@ def ran(words, stdin, files, output=None, memory=None, program=None):
 
 
 def rows():
-    """All rows of the tables of tests/rows, in order."""
-    for path in sorted((TOP / "tests/rows").glob("*.toml")):
+    """All rows of the tables of tests/texts/rows, in order."""
+    for path in sorted((TOP / "tests/texts/rows").glob("*.toml")):
         file = tomllib.loads(path.read_text())
         for place, table in enumerate(file["table"]):
             for number, values in enumerate(table.get("rows", [[]])):

@@ -3,14 +3,16 @@ import concurrent.futures
 import itertools
 import sys
 
+import usage
+
 POOL = concurrent.futures.ThreadPoolExecutor(2)
 # The parts of what comes of a run.
 PARTS = ("what is printed", "what is told", "the status")
 
 
-def tell_omission(script, what):
-    """Says that a script leaves something out here. The scripts that run others say so once more at their end (parts.py)."""
-    print(f"tests/{script}: left out: {what}", flush=True)
+def tell_omission(what):
+    """Says that this script leaves something out here. The scripts that run others say so once more at their end (parts.py)."""
+    print(f"{usage.LINE.split()[0]}: left out: {what}", flush=True)
 
 
 class Tally:

@@ -1,6 +1,5 @@
 pub mod ArgumentLemmas
 pub mod CommandLemmas
-pub mod LawLemmas
 pub mod LineLemmas
 pub mod ReportLemmas
 pub mod RunLemmas

@@ -6,12 +6,12 @@ use Rattle.cn_cert.specs.Reading as certificate
 use Rattle.cn_log.specs.Opening.{Log, Opening}
 use Rattle.cn_table.specs.TypeTable.{TypeTable}
 use Rattle.cn_cert.specs.Certificate.{Certificate}
-use Rattle.cn_forms.specs.declared.plan_forms.Form.TheVariants as form
+use Rattle.cn_form.specs.declared.plan_form.PlanForm.TheVariants as form
 use Rattle.cn_app.specs.Arguments.Calls.{GivesCalls, calls_in}
 use Rattle.cn_app.specs.Arguments.Events.{GivesCapacity, GivesEvents, events_in, words_of}
 use Rattle.cn_app.specs.Arguments.Lists.{GivesLists}
 use Rattle.cn_app.specs.Commands.Agree.{HasAgreeReport, IsAgreeReport}
-use Rattle.cn_json.specs.declared.form.AnswerForm.TheVariants as answer
+use Rattle.cn_form.specs.declared.answer_form.AnswerForm.TheVariants as answer
 use Rattle.cn_app.specs.Commands.Check.{HasCheckReport}
 use Rattle.cn_app.specs.Commands.Find.{HasFindReport, IsFindReport, IsLimitFor}
 use Rattle.cn_app.specs.Commands.Replay.{HasReplayReport, IsReplayReport}

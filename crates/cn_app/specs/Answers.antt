@@ -1,13 +1,11 @@
 -- How events end calls.
-use Rattle.std.specs.Prelude.{ℕ, List, [], ◌∷◌, ◌++◌, Bool, true, false, map, option_to_list}
+use Rattle.std.specs.Prelude.{ℕ, List, [], ◌∷◌, ◌++◌, Bool, true, false, map, option_to_list, Some}
 use Rattle.std.specs.List.{list_any}
 use Rattle.cn_log.specs.CallEnds.{call_end}
 use Rattle.cn_log.specs.Callers.{process_of}
 use Rattle.cn_log.specs.Log.{Setting}
 use Rattle.cn_log.specs.declared.event.CallEnd.{CallEnd}
 use Rattle.cn_log.specs.declared.event.CallEnd.TheVariants.{Answered, Full}
-use Rattle.cn_json.specs.declared.log.Answer.{Answer}
-use Rattle.cn_json.specs.declared.log.Answer.TheVariants as told
 use Rattle.cn_json.specs.declared.log.AnswerOf.{AnswerOf}
 use Rattle.cn_log.specs.declared.event.Event.{Event}
 
@@ -28,14 +26,9 @@ is_full Full = true
 abbrev pub has_full : List (ℕ × CallEnd) → Bool
 has_full ends = list_any (λ end. is_full end.1) ends
 
--- how a call ended, as JSON tells it
-abbrev pub answer_by : CallEnd → Answer
-answer_by (Answered reply) = told.Replied reply
-answer_by Full = told.Full
-
--- the same with its process
+-- a call that ended, as JSON tells it
 abbrev pub answer_of : ℕ × CallEnd → AnswerOf
-answer_of end = record { process = end.0; answer = answer_by end.1 }
+answer_of end = record { process = end.0; end = Some end.1 }
 
 abbrev pub answers_told : List (ℕ × CallEnd) → List AnswerOf
 answers_told ends = map answer_of ends

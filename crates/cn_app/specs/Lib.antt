@@ -1,10 +1,8 @@
 pub mod Answers
 pub mod Arguments
 pub mod Commands
-pub mod ConsensusNumber
 pub mod FaultText
 pub mod Forms
-pub mod Headline
 pub mod Hints
 pub mod Lines
 pub mod Outcomes

@@ -19,7 +19,6 @@ mod why;
 mod why_recoverable;
 
 pub use agree::{AskedRun, agree_report};
-pub use check::check_report;
 pub use classify::{AskedNumbers, check_limit, classification_of, head_report, numbers_report};
 pub use draw::draw_report;
 pub use explain::explain_report;

@@ -18,9 +18,8 @@ use crate::report::Outcome;
 use crate::reports::AskedRun;
 use crate::streams::output::Output;
 use crate::streams::text::Text;
-use cn_forms::Form;
+use cn_form::{AnswerForm, PlanForm};
 use cn_hall::Gate;
-use cn_json::AnswerForm;
 use std::alloc::Global;
 use std::io::{self, Read, Sink, Write};
 use std::sync::Wait;
@@ -99,7 +98,7 @@ pub fn run_check<T, R: Read + Drop, C: Read + Drop, W: Write>(
 }
 
 /// Reads a type table and a certificate, checks the certificate against the table, and writes the
-/// plan of the certificate's witness ([`show`](commands::show), in the form `Form::Text`).
+/// plan of the certificate's witness ([`show`](commands::show), in the form `PlanForm::Text`).
 ///
 /// # Errors
 ///
@@ -119,7 +118,13 @@ pub fn run_show<T, R: Read + Drop, C: Read + Drop, W: Write>(
     let mut table = Text::new(alloc, table);
     let mut certificate = Text::new(alloc, certificate);
     let mut output = kept(alloc);
-    let ended = commands::show(alloc, &mut table, &mut certificate, &mut output, Form::Text);
+    let ended = commands::show(
+        alloc,
+        &mut table,
+        &mut certificate,
+        &mut output,
+        PlanForm::Text,
+    );
     hand_over(writer, &output, ended)
 }
 

@@ -2,8 +2,9 @@
 use crate::certificates::found_test_and_set_at_3;
 use crate::fixtures::table_of;
 use crate::types::{idle, sticky_bit, test_and_set, three_shot};
-use cn_cert::{find_text, read_certificate, read_frame};
+use cn_cert::{read_certificate, read_frame};
 use cn_check::{CheckFault, accepts, check};
+use cn_find_text::find_text;
 use cn_table::Table;
 use std::alloc::Global;
 use std::process::Abort;

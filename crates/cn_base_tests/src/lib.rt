@@ -5,11 +5,11 @@
 //! - `types`, `certificates` and `gates` have what tests begin with, also those of `cn_app_tests`;
 //! - `faults` has the texts of all faults;
 //! - `wide` compares outcome sets with the definitions;
-//! - `refused` has calls whose allocations are refused, once `tests/memory` runs them.
+//! - `refused` has calls whose allocations are refused, once `tests/system/memory/libraries` runs them.
 //!
 //! A test calls public functions on worked values. The expected answers come from outside the
 //! program: numbers and texts of worked types, fakes that fail, and threads that overlap.
-//! `tests/rows` has what the program shows.
+//! `tests/texts/rows` has what the program shows.
 #![tactic(auto)]
 
 #[cfg(test)]

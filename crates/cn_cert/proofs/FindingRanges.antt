@@ -16,8 +16,8 @@ use Rattle.cn_choice.specs.RawChoices.{RawChoice, IsRawChoice}
 use Rattle.cn_choice.specs.OutcomeSets.{InOutcomeSet, pair_of}
 use Rattle.cn_choice.specs.declared.team.Team.{Team}
 use Rattle.cn_choice.specs.declared.team.Team.TheVariants.{A}
-use Rattle.cn_search.specs.Evidence.{IsFindingFor, IsFirstWitness, IsRecordedFor, choices_to_refute}
-use Rattle.cn_search.specs.Finding.{Finding}
+use Rattle.cn_finding.specs.Evidence.{IsFindingFor, IsFirstWitness, IsRecordedFor, choices_to_refute}
+use Rattle.cn_finding.specs.Finding.{Finding}
 use Rattle.cn_cert.specs.Certificate.{certificate_of}
 use Rattle.cn_cert.specs.Ranges.{is_choice_in_range, is_collision_in_range, is_in_range, is_number_in_range, is_short, is_witness_in_range}
 use Rattle.cn_choice.specs.declared.limits.TheConstants.{MOST_PROCESSES}

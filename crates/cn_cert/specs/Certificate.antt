@@ -2,7 +2,7 @@
 use Rattle.std.specs.Prelude.{ℕ, List, Option, Bool, ◌==◌, ◌||◌}
 use Rattle.cn_choice.specs.Canonical.{Choice}
 use Rattle.cn_choice.specs.Collisions.{Collision}
-use Rattle.cn_search.specs.Finding.{Finding}
+use Rattle.cn_finding.specs.Finding.{Finding}
 
 -- the version of the format, the bytes of the type's name, and the parts of a finding
 pub record Certificate : Type 0 where

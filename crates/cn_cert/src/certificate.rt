@@ -3,7 +3,7 @@ ghost use Rattle.std.specs.Prelude.{◌≡◌, IfErr, IfOk};
 ghost use Rattle.cn_cert.specs.Certificate.{certificate_of};
 
 use cn_choice::{Choice, Collision};
-use cn_search::Finding;
+use cn_finding::Finding;
 use cn_table::Table;
 use std::alloc::Global;
 use std::marker::Model;

@@ -7,7 +7,9 @@ use crate::guess::{Bytes, is_rest_of, without_line_feed};
 use std::alloc::Global;
 use std::marker::Brand;
 
-/// The most bytes from the end of the entries to the end of the text that [`read_frame`] looks for.
+/// The most bytes from the end of the entries to the end of the text that [`read_frame`] looks for,
+/// so that it soon gives up any other text. If the certificate is in its ranges there are fewer than
+/// 200: the name has at most 32, the witness 75.
 const MOST_BEHIND: usize = 1024;
 
 /// A certificate without its entries, and their text.

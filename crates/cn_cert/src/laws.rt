@@ -3,9 +3,9 @@
 //! A law is a function that does nothing: its contract is the law.
 ghost use Rattle.std.specs.Prelude.{◌≡◌, ◌≤◌, ℕ, Ok, true};
 ghost use Rattle.cn_table.specs.TypeTable.{TypeTable, IsTypeTable};
-ghost use Rattle.cn_search.specs.Evidence.{IsFindingFor};
-ghost use Rattle.cn_search.specs.Finding.{Finding};
-ghost use Rattle.cn_search.specs.declared.limits.TheConstants.{GREATEST_LIMIT};
+ghost use Rattle.cn_finding.specs.Evidence.{IsFindingFor};
+ghost use Rattle.cn_finding.specs.Finding.{Finding};
+ghost use Rattle.cn_finding.specs.declared.limits.TheConstants.{GREATEST_LIMIT};
 ghost use Rattle.cn_cert.specs.Certificate.{Certificate, certificate_of, is_version};
 ghost use Rattle.cn_cert.specs.CertificateText.{certificate_text};
 ghost use Rattle.cn_cert.specs.Ranges.{is_in_range};

@@ -2,7 +2,7 @@
 //!
 //! [`Certificate::of_finding`] makes a certificate, [`write_certificate`] gives its one text, and
 //! [`read_certificate`] reads it back. A [`CertFault`] says what is wrong with a text.
-//! [`find_text`] looks for the number of a type and writes the text of its certificate meanwhile.
+//! [`push_entry`] and [`write_with_entries`] write it entry by entry.
 //!
 //! ```text
 //! let finding = find(rt, alloc, &table, 3)?;
@@ -20,7 +20,6 @@ mod document;
 mod draft;
 mod entries;
 mod fault;
-mod found;
 mod frame;
 mod guess;
 mod kind;
@@ -35,8 +34,8 @@ mod skip;
 mod write;
 
 pub use certificate::Certificate;
+pub use entries::{push_entry, write_with_entries};
 pub use fault::CertFault;
-pub use found::find_text;
 pub use frame::{Frame, read_frame};
 pub use read::read_certificate;
 pub use write::write_certificate;

@@ -4,6 +4,7 @@
 //! for room. A string then takes the whole entry at once.
 ghost use Rattle.std.specs.Prelude.{◌≡◌, ◌+◌, ◌*◌, ◌<◌, ◌≤◌, ◌++◌, ◌∷◌, [], decimal, length, take, IsAscii};
 ghost use Rattle.serde_json.specs.Written.{compact_text};
+ghost use Rattle.cn_choice.specs.declared.limits.TheConstants.{MOST_PROCESSES};
 ghost use Rattle.cn_cert.specs.declared.line.TheConstants.{ROOM};
 ghost use Rattle.cn_cert.specs.CertificateText.{numbers_data, choice_data, collision_data, triple_text};
 
@@ -94,7 +95,7 @@ impl Line {
     #[inline(always)]
     fn put_triple(&mut self, at: usize, n: u8, a: &[u8], b: &[u8]) -> usize
         requires room { at + 73 ≤ ROOM }
-        requires short { (length a.now ≤ 8) × (length b.now ≤ 8) }
+        requires short { (length a.now ≤ MOST_PROCESSES) × (length b.now ≤ MOST_PROCESSES) }
         ensures text { take result self.new.bytes
             ≡ take at self.old.bytes ++ triple_text n a.now b.now }
         ensures within { result ≤ at + 73 }
@@ -126,7 +127,7 @@ impl Line {
         alpha: &[u8],
         beta: &[u8],
     ) -> usize
-        requires { (length alpha.now ≤ 8) × (length beta.now ≤ 8) }
+        requires { (length alpha.now ≤ MOST_PROCESSES) × (length beta.now ≤ MOST_PROCESSES) }
         ensures text { take result self.new.bytes ≡ compact_text (collision_data
             (record {
               choice = choice.now;

@@ -1,8 +1,8 @@
 -- What an accepted certificate shows, and that the certificate of a finding is accepted.
-use Rattle.std.proofs.Common.{◌≡◌, ◌∙◌, ◌≢◌, ◌==◌, ◌↔◌, ℕ, zero, suc, ◌+◌, ◌<◌, ◌≤◌, List, [], ◌∷◌, length, refl, sym, ap, subst, arith, Bool, true, false, cond, ltb, leb, ◌&&◌, Option, Some, None, IfSome, All, Contains}
+use Rattle.std.proofs.Common.{◌≡◌, ◌∙◌, ◌≢◌, ◌==◌, ◌↔◌, ℕ, zero, suc, ◌+◌, ◌<◌, ◌≤◌, List, [], ◌∷◌, length, refl, sym, ap, subst, arith, Bool, true, false, cond, ltb, Option, Some, None, IfSome, All, Contains}
 use Rattle.std.specs.Prelude.{IfErr, IsErrAnd, IsOk, IsSomeAnd, MatchOption, OnOk, Result, Ok, Err, slice_get}
 use Rattle.std.specs.List.{AllByRecursion, AllZip}
-use Rattle.std.proofs.lemmas.Bool.{leb-true, lt-ltb, ltb-true, and_parts}
+use Rattle.std.proofs.lemmas.Bool.{lt-ltb, ltb-true}
 use Rattle.std.proofs.lemmas.List.Elements.{All-from_recursion}
 use Rattle.std.proofs.lemmas.Slice.Zip.{AllZip-long}
 use Rattle.std.proofs.lemmas.Option.{none-some, same_Some}
@@ -14,10 +14,9 @@ use Rattle.cn_choice.specs.Collisions.{Collision, IsCollision}
 use Rattle.cn_choice.specs.Discerning.{IsDiscerning, IsNumberUpTo, IsWitness, OutcomeSetsMeet}
 use Rattle.cn_choice.specs.FirstCollision.{HasCollision}
 use Rattle.cn_choice.specs.Live.{IsLive, live_choices}
-use Rattle.cn_search.specs.Evidence.{IsFindingFor, IsFirstWitness, IsRecordedFor, choices_to_refute}
-use Rattle.cn_search.specs.Faults.{count_fault, find_fault}
-use Rattle.cn_search.specs.declared.fault.FindFault.TheVariants.{BadLimit}
-use Rattle.cn_search.specs.Finding.{Finding}
+use Rattle.cn_finding.specs.Evidence.{IsFindingFor, IsFirstWitness, IsRecordedFor, choices_to_refute}
+use Rattle.cn_finding.specs.Finding.{Finding}
+use Rattle.cn_finding.specs.declared.limits.TheConstants.{GREATEST_LIMIT, LEAST_LIMIT}
 use Rattle.cn_cert.specs.Certificate.{Certificate, certificate_of}
 use Rattle.cn_check.specs.Conditions.{HasWitnessFor, HoldsCollision, IsInRange, Refutes}
 use Rattle.cn_check.specs.Faults.{HasFault, IsFirstFault}
@@ -131,20 +130,12 @@ in_range_by_parts : (t : TypeTable) (limit : ℕ) (number : Option ℕ) → 2 �
 in_range_by_parts t limit None some few h = record { some = some; few = few; number_in_limit = tt }
 in_range_by_parts t limit (Some n) some few h = record { some = some; few = few; number_in_limit = (h.0, h.1) }
 
-limit_searched : (states operations limit : ℕ) → find_fault states operations limit ≡ None → (2 ≤ limit) × (limit ≤ 8)
-limit_searched states operations limit e = by_test (leb 2 limit && leb limit 8) refl e
-  where
-    by_test : (b : Bool) → (leb 2 limit && leb limit 8) ≡ b → cond b (count_fault (length (canonical_choices states operations limit))) (Some BadLimit) ≡ None → (2 ≤ limit) × (limit ≤ 8)
-    by_test true f g = (let p = and_parts (leb 2 limit) (leb limit 8) f in (leb-true 2 limit p.0, leb-true limit 8 p.1))
-    by_test false f g = absurd (cc g)
-
-pub finding_accepted : Laws → (t : TypeTable) (f : Finding) → IsFindingFor t f.limit f → find_fault (length t.states) (length t.operations) f.limit ≡ None → IsAccepted t (certificate_of t.name f)
-finding_accepted laws t f is searched =
-    let range = limit_searched (length t.states) (length t.operations) f.limit searched in
+pub finding_accepted : Laws → (t : TypeTable) (f : Finding) → IsFindingFor t f.limit f → LEAST_LIMIT ≤ f.limit → f.limit ≤ GREATEST_LIMIT → IsAccepted t (certificate_of t.name f)
+finding_accepted laws t f is some few =
     let parts = fits_by_parts laws t f.number f.witness is.witness in
     record {
       type_name = refl;
-      in_range = in_range_by_parts t f.limit f.number range.0 range.1 is.number;
+      in_range = in_range_by_parts t f.limit f.number some few is.number;
       witness_fits = parts.0;
       witness = parts.1;
       refuted = recorded_refute t (choices_to_refute_in 2 t f.limit f.number) f.collisions (found f.number is.collisions);
@@ -196,7 +187,7 @@ pub accepted_passes : (t : TypeTable) (c : Certificate) (r : Result (Unit {0}) C
 accepted_passes t c (Ok x) h a = refl
 accepted_passes t c (Err e) h a = absurd (no_fault t c a e h.holds)
 
-pub found_passes : ((t : TypeTable) (f : Finding) → IsFindingFor t f.limit f → find_fault (length t.states) (length t.operations) f.limit ≡ None → IsAccepted t (certificate_of t.name f))
+pub found_passes : ((t : TypeTable) (f : Finding) → IsFindingFor t f.limit f → LEAST_LIMIT ≤ f.limit → f.limit ≤ GREATEST_LIMIT → IsAccepted t (certificate_of t.name f))
     → (t : TypeTable) (c : Certificate) (r : Result (Unit {0}) CheckFault) → IfErr r (IsFirstFault t c) → (f : Finding) → IsFindingFor t f.limit f
-    → find_fault (length t.states) (length t.operations) f.limit ≡ None → c ≡ certificate_of t.name f → IsOk r
-found_passes law t c r h f is searched same = accepted_passes t c r h (subst (IsAccepted t) (sym same) (law t f is searched))
+    → LEAST_LIMIT ≤ f.limit → f.limit ≤ GREATEST_LIMIT → c ≡ certificate_of t.name f → IsOk r
+found_passes law t c r h f is some few same = accepted_passes t c r h (subst (IsAccepted t) (sym same) (law t f is some few))

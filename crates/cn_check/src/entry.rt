@@ -20,7 +20,8 @@ pub(crate) struct Shown<'a> {
     pub greatest: u8,
 }
 
-/// The evidence, if no process above the first ones takes part in it.
+/// The evidence, if no process above the first ones takes part in it. `None` is right as well: then
+/// the evidence is shown anew.
 pub(crate) fn kept<'a>(shown: Option<Shown<'a>>, first: usize) -> Option<Shown<'a>>
     ensures { IfSome result (λ s. (shown.entry ≡ Some s) × (s.greatest < first)) }
 {

@@ -1,13 +1,13 @@
 //! The laws that a certificate has one verdict, and that an accepted certificate is right.
 //!
 //! A law is a function that does nothing: its contract is the law.
-ghost use Rattle.std.specs.Prelude.{◌≡◌, IfSome, None, length};
+ghost use Rattle.std.specs.Prelude.{◌≡◌, ◌≤◌, IfSome};
 ghost use Rattle.cn_table.specs.TypeTable.{TypeTable};
 ghost use Rattle.cn_choice.specs.Canonical.{FitsTable};
 ghost use Rattle.cn_choice.specs.Discerning.{IsNumberUpTo};
-ghost use Rattle.cn_search.specs.Evidence.{IsFindingFor};
-ghost use Rattle.cn_search.specs.Faults.{find_fault};
-ghost use Rattle.cn_search.specs.Finding.{Finding};
+ghost use Rattle.cn_finding.specs.Evidence.{IsFindingFor};
+ghost use Rattle.cn_finding.specs.Finding.{Finding};
+ghost use Rattle.cn_finding.specs.declared.limits.TheConstants.{GREATEST_LIMIT, LEAST_LIMIT};
 ghost use Rattle.cn_cert.specs.Certificate.{Certificate, certificate_of};
 ghost use Rattle.cn_check.specs.Faults.{HasFault, IsFirstFault};
 ghost use Rattle.cn_check.specs.Verdict.{IsAccepted};
@@ -33,7 +33,7 @@ pub fn accepted_is_right()
         → IsNumberUpTo t c.limit c.number }
     // promise: accepted-numbers
     ensures found { (t : TypeTable) (f : Finding) → IsFindingFor t f.limit f
-        → find_fault (length t.states) (length t.operations) f.limit ≡ None
+        → LEAST_LIMIT ≤ f.limit → f.limit ≤ GREATEST_LIMIT
         → IsAccepted t (certificate_of t.name f) }
 {
     // An entry that refutes a choice shows that the choice is no witness. If none of the choices

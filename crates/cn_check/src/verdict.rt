@@ -1,12 +1,12 @@
 //! The check of a certificate.
-ghost use Rattle.std.specs.Prelude.{◌≡◌, ◌≤◌, ◌↔◌, length, IfErr, IfSome, IsOk, IsTrue, None, OnOk};
+ghost use Rattle.std.specs.Prelude.{◌≡◌, ◌≤◌, ◌↔◌, IfErr, IfSome, IsOk, IsTrue, OnOk};
 ghost use Rattle.std.specs.List.{AllZip};
 ghost use Rattle.cn_choice.specs.declared.limits.TheConstants.{MOST_PROCESSES};
 ghost use Rattle.cn_choice.specs.Canonical.{raw_choice_of};
 ghost use Rattle.cn_choice.specs.Discerning.{IsNumberUpTo, IsWitness};
-ghost use Rattle.cn_search.specs.Evidence.{IsFindingFor};
-ghost use Rattle.cn_search.specs.Faults.{find_fault};
-ghost use Rattle.cn_search.specs.Finding.{Finding};
+ghost use Rattle.cn_finding.specs.Evidence.{IsFindingFor};
+ghost use Rattle.cn_finding.specs.Finding.{Finding};
+ghost use Rattle.cn_finding.specs.declared.limits.TheConstants.{GREATEST_LIMIT, LEAST_LIMIT};
 ghost use Rattle.cn_cert.specs.Certificate.{certificate_of};
 ghost use Rattle.cn_check.specs.Conditions.{HasWitnessFor, IsInRange, Refutes};
 ghost use Rattle.cn_check.specs.Faults.{IsFirstFault};
@@ -125,7 +125,7 @@ pub fn check(table: &Table, certificate: &Certificate) -> Result<(), CheckFault>
         (IsNumberUpTo table.now certificate.now.limit certificate.now.number) }
     // promise: accepted-numbers
     ensures found { (f : Finding) → IsFindingFor table.now f.limit f
-        → find_fault (length table.now.states) (length table.now.operations) f.limit ≡ None
+        → LEAST_LIMIT ≤ f.limit → f.limit ≤ GREATEST_LIMIT
         → certificate.now ≡ certificate_of table.now.name f → IsOk result }
 {
     accepted_is_right();

@@ -19,7 +19,7 @@ use Rattle.cn_table.specs.Names.{name_at}
 use Rattle.cn_forms.specs.Folded.{folded}
 use Rattle.cn_forms.specs.Pairs.{pair_words}
 use Rattle.cn_forms.specs.Groups.{alike, goes_along, processes, witness_rows}
-use Rattle.cn_forms.specs.declared.limits.TheConstants.{MOST_TOLD}
+use Rattle.cn_form.specs.declared.limits.TheConstants.{MOST_TOLD}
 use Rattle.cn_forms.specs.declared.numbers.TypeNumber.{TypeNumber}
 use Rattle.cn_forms.specs.declared.numbers.TypeNumber.TheVariants.{Exact, UpTo}
 

@@ -6,10 +6,10 @@ use Rattle.cn_code.specs.Code.{c_text, rust_text}
 use Rattle.cn_forms.specs.Dot.{plan_dot}
 use Rattle.cn_forms.specs.Json.{plan_json}
 use Rattle.cn_forms.specs.Promela.{plan_promela}
-use Rattle.cn_forms.specs.declared.plan_forms.Form.{Form}
-use Rattle.cn_forms.specs.declared.plan_forms.Form.TheVariants.{Text, Json, Dot, Promela, Rust, C}
+use Rattle.cn_form.specs.declared.plan_form.PlanForm.{PlanForm}
+use Rattle.cn_form.specs.declared.plan_form.PlanForm.TheVariants.{Text, Json, Dot, Promela, Rust, C}
 
-abbrev pub form_text : Form → Plan → List ℕ
+abbrev pub form_text : PlanForm → Plan → List ℕ
 form_text Text plan = plan_text plan
 form_text Json plan = plan_json plan
 form_text Dot plan = plan_dot plan

@@ -1,7 +1,4 @@
-//! The limits of an explanation: how many ways it tells, and how wide its lines are.
-
-/// The greatest number of collisions that `explain` tells, unless it is asked for all.
-pub const MOST_TOLD: usize = 12;
+//! The limits of an explanation: how wide its lines are, and how many pairs it tells.
 
 /// The greatest width of a line of `explain` in columns. The lines of the table's cells can be
 /// wider.

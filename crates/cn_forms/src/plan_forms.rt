@@ -11,42 +11,26 @@ use crate::plan_forms::as_dot::plan_dot;
 use crate::plan_forms::as_json::plan_json;
 use crate::plan_forms::as_promela::plan_promela;
 use cn_code::{as_c, as_rust};
+use cn_form::PlanForm;
 use cn_proto::Plan;
 use std::alloc::{AllocError, Global};
 
-/// A form of a plan's text.
-#[derive(Clone, Copy, Debug, PartialEq, Eq)]
-pub enum Form {
-    /// Lines of text for people.
-    Text,
-    /// One JSON object.
-    Json,
-    /// The tournament as a picture for Graphviz.
-    Dot,
-    /// A model in Promela, for the model checker SPIN.
-    Promela,
-    /// A program in Rust.
-    Rust,
-    /// A program in C.
-    C,
-}
-
 /// The text of a plan in a form; its last byte is a line feed. Each form writes the same plan.
 ///
-/// - [`Form::Text`]: the lines of [`Plan::show`].
-/// - [`Form::Json`]: one compact object, its keys in the order of their bytes: `nodes` and
+/// - [`PlanForm::Text`]: the lines of [`Plan::show`].
+/// - [`PlanForm::Json`]: one compact object, its keys in the order of their bytes: `nodes` and
 ///   `processes`, numbers; `paths`, for each process its places from the lowest node to the root;
 ///   `roles`, for each role the pairs that it judges to be team A's, its operation and its team;
 ///   `start` and `type`, names.
-/// - [`Form::Dot`]: a `digraph` with the nodes, the processes, and for each place of a path an
+/// - [`PlanForm::Dot`]: a `digraph` with the nodes, the processes, and for each place of a path an
 ///   arrow to its node. The arrow names the process, its team there, its role and the role's
 ///   operation.
-/// - [`Form::Promela`]: a process for each process of the plan. It takes the four actions at each
+/// - [`PlanForm::Promela`]: a process for each process of the plan. It takes the four actions at each
 ///   place of its path, one `atomic` each, and may stop before each. It begins with its own number
 ///   as the value. Assertions say of each decision that it is the value of a process that has
 ///   moved, that it equals every other decision, and that it comes with action 4k, where k is the
 ///   number of places on the path; 4k is at most 4(n-1) for n processes.
-/// - [`Form::Rust`] and [`Form::C`]: consensus for the processes of the plan as one file of source
+/// - [`PlanForm::Rust`] and [`PlanForm::C`]: consensus for the processes of the plan as one file of source
 ///   code ([`as_rust`], [`as_c`]).
 ///
 /// Names consist of lower case letters, digits and underscores, so no form escapes them.
@@ -54,17 +38,17 @@ pub enum Form {
 /// # Errors
 ///
 /// `AllocError` if memory runs out.
-pub fn plan_as(alloc: Global, plan: &Plan, form: Form) -> Result<String, AllocError>
+pub fn plan_as(alloc: Global, plan: &Plan, form: PlanForm) -> Result<String, AllocError>
     // promise: forms-of-a-plan (form_text: plan_text, plan_json, plan_dot, plan_promela, rust_text,
     //     c_text)
     ensures { IfOk result (λ text. string_bytes text ≡ form_text form plan.now) }
 {
     match form {
-        Form::Text => plan.show(alloc),
-        Form::Json => plan_json(alloc, plan),
-        Form::Dot => plan_dot(alloc, plan),
-        Form::Promela => plan_promela(alloc, plan),
-        Form::Rust => as_rust(alloc, plan),
-        Form::C => as_c(alloc, plan),
+        PlanForm::Text => plan.show(alloc),
+        PlanForm::Json => plan_json(alloc, plan),
+        PlanForm::Dot => plan_dot(alloc, plan),
+        PlanForm::Promela => plan_promela(alloc, plan),
+        PlanForm::Rust => as_rust(alloc, plan),
+        PlanForm::C => as_c(alloc, plan),
     }
 }

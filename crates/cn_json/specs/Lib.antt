@@ -1,5 +1,4 @@
 pub mod Flaws
-pub mod Forms
 pub mod Tokens
 pub mod Values
 pub mod Course

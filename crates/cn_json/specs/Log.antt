@@ -1,18 +1,17 @@
 -- What happened in a log as JSON values: its calls, its entries and its events.
-use Rattle.std.specs.Prelude.{ℕ, List, [], ◌∷◌, All, codes}
+use Rattle.std.specs.Prelude.{ℕ, List, [], ◌∷◌, All, codes, IfSome, None, Option, Some}
 use Rattle.serde_json.specs.Data.{Data, array, object, member, no_members}
 use Rattle.serde_json.specs.View.{items_of}
 use Rattle.cn_table.specs.Names.{name_at}
 use Rattle.cn_table.specs.TypeTable.{TypeTable, operation_names, transition}
 use Rattle.cn_log.specs.CallEnds.{EndsWithResponse}
 use Rattle.cn_log.specs.declared.entry.Entry.{Entry}
-use Rattle.cn_log.specs.declared.event.CallEnd.TheVariants as ends
+use Rattle.cn_log.specs.declared.event.CallEnd.{CallEnd}
+use Rattle.cn_log.specs.declared.event.CallEnd.TheVariants.{Answered, Full}
 use Rattle.cn_log.specs.declared.event.Event.{Event}
 use Rattle.cn_lines.specs.Events.{event_text}
 use Rattle.cn_json.specs.Values.{list_data, number_data, text_data}
-use Rattle.cn_json.specs.declared.log.Answer.{Answer}
 use Rattle.cn_json.specs.declared.log.AnswerOf.{AnswerOf}
-use Rattle.cn_json.specs.declared.log.Answer.TheVariants.{Replied, Full, Stopped}
 
 -- a call of a process with a response, which stands in a slot
 abbrev pub reply_data : ℕ → List ℕ → ℕ → Data
@@ -28,24 +27,20 @@ unanswered_data end process =
     object (member (codes "end") (text_data end)
     (member (codes "process") (number_data process) no_members))
 
-abbrev pub end_data : TypeTable → ℕ → Answer → Data
-end_data t process (Replied reply) =
+-- a call that has no end was stopped
+abbrev pub end_data : TypeTable → ℕ → Option CallEnd → Data
+end_data t process (Some (Answered reply)) =
     reply_data process (name_at t.responses reply.response.0) reply.slot
-end_data t process Full = unanswered_data (codes "full") process
-end_data t process Stopped = unanswered_data (codes "stopped") process
+end_data t process (Some Full) = unanswered_data (codes "full") process
+end_data t process None = unanswered_data (codes "stopped") process
 
 -- how a call of a process ended
 abbrev pub answer_data : TypeTable → AnswerOf → Data
-answer_data t a = end_data t a.process a.answer
+answer_data t a = end_data t a.process a.end
 
--- the response, if there is one, is one of the object's
-abbrev pub HasResponse : TypeTable → Answer → Type 0
-HasResponse t (Replied reply) = EndsWithResponse t (ends.Answered reply)
-HasResponse t Full = Unit {0}
-HasResponse t Stopped = Unit {0}
-
+-- the response of each call, if there is one, is one of the object's
 abbrev pub HaveResponses : TypeTable → List AnswerOf → Type 0
-HaveResponses t answers = All (λ a. HasResponse t a.answer) answers
+HaveResponses t answers = All (λ a. IfSome a.end (EndsWithResponse t)) answers
 
 -- an entry in a slot: its operation and process, the response of the object, and the state after it
 abbrev pub entry_data : List ℕ → ℕ → List ℕ → ℕ → List ℕ → Data

@@ -1,37 +1,27 @@
 //! What happened in a log as JSON: its calls, its entries and its events.
-ghost use Rattle.std.specs.Prelude.{◌≡◌, ◌<◌, All, IfOk, length, string_bytes};
+ghost use Rattle.std.specs.Prelude.{◌≡◌, ◌<◌, All, IfOk, IfSome, length, string_bytes};
 ghost use Rattle.serde_json.specs.Written.{compact_text};
 ghost use Rattle.cn_table.specs.Names.{name_at};
+ghost use Rattle.cn_log.specs.CallEnds.{EndsWithResponse};
 ghost use Rattle.cn_log.specs.Linearized.{entry_slots};
 ghost use Rattle.cn_log.specs.Log.{entries};
 ghost use Rattle.cn_log.specs.Opening.{setting};
 ghost use Rattle.cn_lines.specs.Events.{event_text};
-ghost use Rattle.cn_json.specs.Log.{answer_data, entries_list, event_data, log_data, placed_data, reply_data, service_data, unanswered_data, HasResponse, HaveResponses};
+ghost use Rattle.cn_json.specs.Log.{answer_data, entries_list, event_data, log_data, placed_data, reply_data, service_data, unanswered_data, HaveResponses};
 ghost use Rattle.cn_json.specs.Tokens.{Appends, list_rest, value_tokens, values_rest};
 
 use crate::json_text::JsonText;
-use cn_log::{Entry, Event, LogCore, Reply};
+use cn_log::{CallEnd, Entry, Event, LogCore, Reply};
 use cn_table::{Response, State, Table};
 use std::alloc::{AllocError, Global};
-
-/// How a call ended.
-#[derive(Clone, Copy, Debug)]
-pub enum Answer {
-    /// It has this reply.
-    Replied(Reply),
-    /// All slots are fixed, and none holds the call.
-    Full,
-    /// It was stopped.
-    Stopped,
-}
 
 /// How a call of a process ended.
 #[derive(Clone, Copy, Debug)]
 pub struct AnswerOf {
     /// The process, from 0.
     pub process: u8,
-    /// How its call ended.
-    pub answer: Answer,
+    /// How its call ended, or none if it was stopped before its end.
+    pub end: Option<CallEnd>,
 }
 
 fn write_reply(
@@ -64,13 +54,13 @@ fn write_unanswered(out: &mut JsonText, end: &str, process: u8) -> Result<(), Al
 }
 
 fn write_answer(out: &mut JsonText, object: &Table, answer: AnswerOf) -> Result<(), AllocError>
-    requires { HasResponse object.now answer.answer }
+    requires { IfSome answer.end (EndsWithResponse object.now) }
     ensures { Appends result out.old out.new (value_tokens (answer_data object.now answer)) }
 {
-    match answer.answer {
-        Answer::Replied(reply) => write_reply(out, object, answer.process, reply),
-        Answer::Full => write_unanswered(out, "full", answer.process),
-        Answer::Stopped => write_unanswered(out, "stopped", answer.process),
+    match answer.end {
+        Some(CallEnd::Answered(reply)) => write_reply(out, object, answer.process, reply),
+        Some(CallEnd::Full) => write_unanswered(out, "full", answer.process),
+        None => write_unanswered(out, "stopped", answer.process),
     }
 }
 

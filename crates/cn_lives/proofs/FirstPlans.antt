@@ -7,7 +7,7 @@ use Rattle.cn_choice.specs.Canonical.{Choice, FitsTable, raw_choice_of}
 use Rattle.cn_choice.specs.Live.{live_choices}
 use Rattle.cn_choice.specs.RawChoices.{IsRawChoice}
 use Rattle.cn_choice.specs.declared.limits.TheConstants.{MOST_PROCESSES}
-use Rattle.cn_search.specs.Evidence.{IsFirst}
+use Rattle.cn_finding.specs.Evidence.{IsFirst}
 use Rattle.cn_recover.specs.Recording.{IsRecordingWitness}
 use Rattle.cn_lives.specs.Plans.{IsHomeForm}
 

@@ -9,6 +9,7 @@ use Rattle.std.proofs.lemmas.Bool.{cases_eq, ltb-true}
 use Rattle.std.proofs.lemmas.List.{get_or_default, get_or-map, get_or-replicate, length-map}
 use Rattle.std.proofs.lemmas.List.{length-replicate}
 use Rattle.cn_table.specs.declared.elements.State.{State}
+use Rattle.cn_table.proofs.ReachLemmas.{next_below}
 use Rattle.cn_choice.specs.Canonical.{raw_choice_of}
 use Rattle.cn_choice.specs.declared.team.Team.{Team}
 use Rattle.cn_proto.specs.Plan.{IsPlan, nodes_of, processes_of, protocol_of}
@@ -17,21 +18,21 @@ use Rattle.cn_proto.specs.Sound.{IsSound}
 use Rattle.cn_proto.specs.Tournament.{team_of}
 use Rattle.cn_proto.specs.declared.place.Place.{Place}
 use Rattle.cn_proto.proofs.PlanLemmas.{operation_known}
-use Rattle.cn_consensus.proofs.Tables.{table_closed}
-use Rattle.cn_solvable.specs.RoundProtocol.{register_of}
-use Rattle.cn_crashes.specs.Execution.{Event, IsExecution}
-use Rattle.cn_crashes.specs.Execution.Event.{Step, Crash}
-use Rattle.cn_lives.specs.Plans.{RecordingPlan, recoverable_plan}
+use Rattle.cn_agree.specs.Consensus.{IsSchedule}
+use Rattle.cn_lives.specs.Plans.{RecordingPlan}
 use Rattle.cn_lives.specs.Runs.{AreLivesOf, after_events, first_world}
+use Rattle.cn_lives.specs.Schedules.{named}
 use Rattle.cn_lives.specs.Steps.{World, after_crash, after_step, after_step_from, held_at}
 use Rattle.cn_lives.specs.Steps.{local_after}
-use Rattle.cn_lives.specs.Steps.{local_at, objects_after, onward, onward_if, registers_after}
-use Rattle.cn_lives.specs.Steps.{state_at}
+use Rattle.cn_lives.specs.Steps.{local_at, objects_after, onward, onward_if, register_of}
+use Rattle.cn_lives.specs.Steps.{registers_after, state_at}
 use Rattle.cn_lives.specs.Turns.{IsTurn}
 use Rattle.cn_lives.specs.declared.local.Local.{Local}
 use Rattle.cn_lives.specs.declared.local.Local.TheVariants.{Active, Decided}
 use Rattle.cn_lives.specs.declared.local.Stage.{Stage}
 use Rattle.cn_lives.specs.declared.local.Stage.TheVariants.{Write, Look, Peek, Act, Again, Take}
+use Rattle.cn_lives.specs.declared.schedule.Event.{Event}
+use Rattle.cn_lives.specs.declared.schedule.Event.TheVariants.{Step, Crash}
 
 -- process q is at a place of its path, or has decided
 abbrev pub IsAt : RecordingPlan → ℕ → Local → Type 0
@@ -112,7 +113,7 @@ module _ (p : RecordingPlan) (is : IsPlan p.plan)
     onward_if_at l a (Some y) = onward_at y
 
     next_at : (x : ℕ) (stage : Stage) (here : Place) (s : ℕ) (held : Team → Option ℕ)
-        → IsAt p q (local_after (recoverable_plan p) (length ((protocol_of p.plan).path q)) i x
+        → IsAt p q (local_after p (length ((protocol_of p.plan).path q)) i x
         stage here s held)
     next_at x Write here s held = at
     next_at x Look here s held = at
@@ -132,7 +133,7 @@ module _ (p : RecordingPlan) (is : IsPlan p.plan)
   registers_kept x (Take side) here registers = refl
 
   objects_kept : (stage : Stage) (here : Place) (objects : List State)
-      → length (objects_after (recoverable_plan p) stage here objects) ≡ length objects
+      → length (objects_after p stage here objects) ≡ length objects
   objects_kept Write here objects = refl
   objects_kept Look here objects = refl
   objects_kept Peek here objects = refl
@@ -142,7 +143,7 @@ module _ (p : RecordingPlan) (is : IsPlan p.plan)
 
   states_known : (w : World) (stage : Stage) (here : Place) → Fits p w → here.node < nodes_of p.plan
       → here.role < n → (v : ℕ) → v < nodes_of p.plan
-      → state_at (objects_after (recoverable_plan p) stage here w.objects) v < states
+      → state_at (objects_after p stage here w.objects) v < states
   states_known w Write here h ln lr v lv = h.states v lv
   states_known w Look here h ln lr v lv = h.states v lv
   states_known w Peek here h ln lr v lv = h.states v lv
@@ -150,8 +151,8 @@ module _ (p : RecordingPlan) (is : IsPlan p.plan)
       let s = state_at w.objects here.node in
       let next : State = record { 0 = ((protocol_of p.plan).act here.role s).1 } in
       let known : next.0 < states =
-      table_closed p.plan.table is.known (slice_index (raw_choice_of p.plan.choice).operations
-      here.role) s (operation_known p.plan is here.role lr) (h.states here.node ln) in
+      next_below p.plan.table (slice_index (raw_choice_of p.plan.choice).operations here.role) s
+      is.known (operation_known p.plan is here.role lr) (h.states here.node ln) in
       let within : here.node < length w.objects = subst (λ (k : ℕ). here.node < k)
       (sym h.objects_are) ln in
       elim (cases_eq v here.node) [
@@ -166,15 +167,15 @@ module _ (p : RecordingPlan) (is : IsPlan p.plan)
   states_known w (Take side) here h ln lr v lv = h.states v lv
 
   pub fits_step : (q : ℕ) (w : World) → q < n → Fits p w
-      → Fits p (after_step (recoverable_plan p) q w)
+      → Fits p (after_step p q w)
   fits_step q w lq h = go (local_at w q) refl
     where
-      go : (l : Local) → local_at w q ≡ l → Fits p (after_step_from (recoverable_plan p) q w l)
+      go : (l : Local) → local_at w q ≡ l → Fits p (after_step_from p q w l)
       go (Decided y) e = h
       go (Active i x stage) e =
           let at : i < length ((protocol_of p.plan).path q) = subst (IsAt p q) e (h.places q lq) in
           let here = place_of (protocol_of p.plan) q i in
-          let next = local_after (recoverable_plan p) (length ((protocol_of p.plan).path q)) i x
+          let next = local_after p (length ((protocol_of p.plan).path q)) i x
           stage here (state_at w.objects here.node) (held_at w.registers here.node) in
           record {
             locals_are = length-set w.locals q next ∙ h.locals_are;
@@ -187,19 +188,19 @@ module _ (p : RecordingPlan) (is : IsPlan p.plan)
                 (sound.roles_below q i (lq, at));
           }
 
-  -- ---- an execution
+  -- ---- a schedule
 
-  pub fits_events : (es : List Event) (w : World) → IsExecution n es → Fits p w
-      → Fits p (after_events (recoverable_plan p) es w)
+  pub fits_events : (es : List Event) (w : World) → IsSchedule n (named es) → Fits p w
+      → Fits p (after_events p es w)
   fits_events [] w k h = h
   fits_events (Step q ∷ es) w k h =
-      fits_events es (after_step (recoverable_plan p) q w) k.1 (fits_step q w k.0 h)
+      fits_events es (after_step p q w) k.1 (fits_step q w k.0 h)
   fits_events (Crash q ∷ es) w k h =
       fits_events es (after_crash q w) k.1 (fits_crash q w k.0 h)
 
   pub fits : (es : List Event) (w : World) → AreLivesOf p es w → Fits p w
   fits es w l = subst (Fits p) (sym l.is)
-      (fits_events es (first_world p w.inputs) l.execution (fits_first w.inputs l.inputs_are))
+      (fits_events es (first_world p w.inputs) l.schedule (fits_first w.inputs l.inputs_are))
 
   -- ---- the turn of a process
 

@@ -1,9 +1,6 @@
 pub mod Exchange
 pub mod FirstPlans
 pub mod Fitting
-pub mod Mirroring
 pub mod Planning
-pub mod Reaching
-pub mod Rightness
 pub mod Running
 pub mod Telling

@@ -1,7 +1,5 @@
-pub mod Consensus
 pub mod Courses
 pub mod Lives
-pub mod Mirrors
 pub mod Plans
 pub mod Runs
 pub mod Schedules

@@ -2,17 +2,16 @@
 use Rattle.std.specs.Prelude.{◌≡◌, ◌<◌, ◌↔◌, ◌⊎◌, ℕ, IsBitSet, List, length, nat_eq}
 use Rattle.std.specs.Prelude.{Result, Ok, Err}
 use Rattle.std.specs.Prelude.{Option, None, Some}
-use Rattle.std.specs.Prelude.{slice_index, slice_index_or}
+use Rattle.std.specs.Prelude.{Bool, slice_index_or}
 use Rattle.cn_table.specs.TypeTable.{TypeTable}
 use Rattle.cn_choice.specs.Canonical.{Choice, raw_choice_of}
 use Rattle.cn_choice.specs.Live.{live_choices}
 use Rattle.cn_choice.specs.declared.team.Team.{Team}
 use Rattle.cn_choice.specs.declared.team.Team.TheVariants.{A, B}
 use Rattle.cn_outcomes.specs.LeftStates.{LeavesIn}
-use Rattle.cn_search.specs.Evidence.{IsFirst}
-use Rattle.cn_proto.specs.Plan.{IsPlan, Plan, processes_of, protocol_of}
+use Rattle.cn_finding.specs.Evidence.{IsFirst}
+use Rattle.cn_proto.specs.Plan.{IsPlan, Plan, processes_of}
 use Rattle.cn_recover.specs.Recording.{IsRecording, IsRecordingWitness}
-use Rattle.cn_crashes.specs.RecoverableRound.{RecoverablePlan}
 use Rattle.cn_lives.specs.declared.fault.RecordingFault.{RecordingFault}
 use Rattle.cn_lives.specs.declared.fault.RecordingFault.TheVariants.{NotRecording, OutOfMemory}
 
@@ -32,14 +31,13 @@ pub record IsRecordingPlan (p : RecordingPlan) : Type 0 where
       ↔ LeavesIn p.plan.table (raw_choice_of p.plan.choice) A q
   pub home : slice_index_or p.first_teams p.plan.choice.state B ≡ B
 
--- the same plan as functions
-abbrev pub recoverable_plan : RecordingPlan → RecoverablePlan
-recoverable_plan p = record {
-  round = protocol_of p.plan;
-  operation = λ role. slice_index (raw_choice_of p.plan.choice).operations role;
-  judge = λ q. slice_index_or p.first_teams q B;
-  lone = nat_eq (length p.plan.choice.a) 1;
-}
+-- the team that came first at a node, by the state of its object
+abbrev pub judge : RecordingPlan → ℕ → Team
+judge p q = slice_index_or p.first_teams q B
+
+-- whether team A is one process alone
+abbrev pub is_lone : RecordingPlan → Bool
+is_lone p = nat_eq (length p.plan.choice.a) 1
 
 -- for each of this many states, whether it is in the set: team A if it is, else team B
 pub record AreTeamsOf (set states : ℕ) (teams : List Team) : Type 0 where
@@ -68,5 +66,6 @@ IsRecordingPlanned t c (Err OutOfMemory) = Unit {0}
 -- if the type is n-recording
 abbrev pub IsFirstPlan : TypeTable → ℕ → Option RecordingPlan → Type 0
 IsFirstPlan t n None = ¬ IsRecording t n
-IsFirstPlan t n (Some p) = (w : Choice) × IsFirst (IsRecordingWitness t) (live_choices t n) w
-    × (p.plan.table ≡ t) × IsHomeForm t w p.plan.choice × (processes_of p.plan ≡ n)
+IsFirstPlan t n (Some p) = IsRecordingPlan p × (p.plan.table ≡ t) × (processes_of p.plan ≡ n)
+    × ((w : Choice) × IsFirst (IsRecordingWitness t) (live_choices t n) w
+    × IsHomeForm t w p.plan.choice)

@@ -4,14 +4,12 @@ ghost use Rattle.cn_proto.specs.Plan.{processes_of};
 ghost use Rattle.cn_agree.specs.Schedules.{schedule_fault};
 ghost use Rattle.cn_agree.specs.declared.fault.ScheduleFault.{ScheduleFault as FaultOf};
 ghost use Rattle.cn_agree.specs.declared.fault.ScheduleFault.TheVariants.{OutOfMemory};
-ghost use Rattle.cn_lives.specs.Consensus.{IsRecoverableConsensus};
 ghost use Rattle.cn_lives.specs.Courses.{AreOfTable, IsOfTable, event_action, records_from, records_of};
 ghost use Rattle.cn_lives.specs.Lives.{world_of};
-ghost use Rattle.cn_lives.specs.Plans.{recoverable_plan};
-ghost use Rattle.cn_lives.specs.Runs.{LiveBy, after_events};
-ghost use Rattle.cn_lives.specs.Schedules.{decisions_after, event_of, execution_of, named, process_of};
+ghost use Rattle.cn_lives.specs.Runs.{LiveBy, after_events, decisions_after};
+ghost use Rattle.cn_lives.specs.Schedules.{named, process_of};
 
-use crate::laws::{lives_reach_consensus, recording_plans_are_sound};
+use crate::laws::recording_plans_are_sound;
 use crate::life_action::{LifeAction, LifeRecord};
 use crate::lives::Lives;
 use crate::plan::RecordingPlan;
@@ -41,8 +39,7 @@ impl Model for LifeCourse {
 fn event_action(plan: &RecordingPlan, lives: &Lives, event: Event) -> LifeAction
     requires of_plan { LiveBy plan.now (world_of lives.now) }
     requires process { process_of event < processes_of plan.now.plan }
-    ensures action { result
-        ≡ event_action (recoverable_plan plan.now) (world_of lives.now) (event_of event) }
+    ensures action { result ≡ event_action plan.now (world_of lives.now) event }
     ensures table { IsOfTable plan.now.plan.table result }
 {
     match event {
@@ -61,11 +58,10 @@ fn record_all(
     requires of_plan { LiveBy plan.now (world_of lives.old) }
     requires schedule { All (λ e. process_of e < processes_of plan.now.plan) schedule.now }
     ensures records { IfOk result (λ records. records.items
-        ≡ records_from (recoverable_plan plan.now) schedule.now (world_of lives.old)) }
+        ≡ records_from plan.now schedule.now (world_of lives.old)) }
     ensures table { IfOk result (λ records. AreOfTable plan.now.plan.table records.items) }
     ensures world { OnOk result (world_of lives.new
-        ≡ after_events (recoverable_plan plan.now) (execution_of schedule.now)
-        (world_of lives.old)) }
+        ≡ after_events plan.now schedule.now (world_of lives.old)) }
     ensures of_plan { LiveBy plan.now (world_of lives.new) }
 {
     let mut records = Vec::new(alloc);
@@ -101,9 +97,6 @@ pub fn run_life_steps(
     // promise: steps-of-lives
     ensures decisions { IfOk result (λ c. c.decisions
         ≡ decisions_after plan.now inputs.now schedule.now) }
-    // promise: steps-of-lives
-    ensures consensus { OnOk result (IsRecoverableConsensus plan.now inputs.now
-        (execution_of schedule.now)) }
     // promise: refusals-of-lives
     ensures run { OnOk result (schedule_fault (processes_of plan.now.plan) inputs.now
         (named schedule.now) ≡ None) }
@@ -117,7 +110,6 @@ pub fn run_life_steps(
         ≡ Some e)) }
 {
     recording_plans_are_sound(plan);
-    lives_reach_consensus(plan);
     let mut lives = first_lives(alloc, plan, inputs, schedule)?;
     let records = record_all(alloc, plan, &mut lives, schedule)?;
     Ok(LifeCourse {

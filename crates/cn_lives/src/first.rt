@@ -3,7 +3,7 @@ ghost use Rattle.std.specs.Prelude.{◌≡◌, ◌≤◌, IfOk};
 ghost use Rattle.cn_choice.specs.Canonical.{FitsTable, raw_choice_of};
 ghost use Rattle.cn_choice.specs.declared.limits.TheConstants.{MOST_PROCESSES};
 ghost use Rattle.cn_recover.specs.Recording.{IsRecordingWitness};
-ghost use Rattle.cn_lives.specs.Plans.{IsFirstPlan, IsHomeForm};
+ghost use Rattle.cn_lives.specs.Plans.{IsFirstPlan, IsHomeForm, IsRecordingPlan};
 
 use crate::fault::RecordingFault;
 use crate::plan::RecordingPlan;
@@ -32,7 +32,7 @@ pub fn first_plan<T: Threads + Sync>(
 ) -> Result<Option<RecordingPlan>, AllocError>
     requires some { 2 ≤ n }
     requires few { n ≤ MOST_PROCESSES }
-    // promise: first-recording-plan (IsFirstPlan)
+    // promise: first-recording-plan (IsFirstPlan: IsRecordingPlan)
     ensures { IfOk result (IsFirstPlan table.now n) }
 {
     live_list();
@@ -51,11 +51,15 @@ fn plan_of_witness(
 ) -> Result<RecordingPlan, AllocError>
     requires fits { FitsTable table.now witness.now }
     requires recording { IsRecordingWitness table.now (raw_choice_of witness.now) }
+    ensures plan { IfOk result IsRecordingPlan }
     ensures table { IfOk result (λ p. p.plan.table ≡ table.now) }
     ensures choice { IfOk result (λ p. IsHomeForm table.now witness.now p.plan.choice) }
 {
     match RecordingPlan::from_witness(alloc, table, witness) {
-        Ok(plan) => Ok(plan),
+        Ok(plan) => {
+            plan.touch();
+            Ok(plan)
+        }
         Err(RecordingFault::OutOfMemory) => Err(AllocError),
         // The choice is a recording witness.
         Err(RecordingFault::NotRecording) => unreachable!(),

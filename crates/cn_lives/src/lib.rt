@@ -15,7 +15,8 @@
 //!
 //! It decides the value with which it leaves the root. After a crash it begins again with its
 //! input, at its first place. [`run_lives`] runs a schedule of steps and crashes, and
-//! [`run_life_steps`] also tells what each of them does.
+//! [`run_life_steps`] also tells what each of them does. That every run is consensus are laws of
+//! `cn_life_laws`, above this crate.
 //!
 //! ```text
 //! let Some(plan) = first_plan(rt, alloc, &table, 2)? else {

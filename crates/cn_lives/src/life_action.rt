@@ -2,7 +2,6 @@
 ghost use Rattle.std.specs.Prelude.{◌≡◌, ◌<◌, ◌≤◌, ◌*◌, None, length};
 ghost use Rattle.cn_proto.specs.Plan.{processes_of};
 ghost use Rattle.cn_lives.specs.Courses.{IsOfTable, action_at, look, take_if};
-ghost use Rattle.cn_lives.specs.Plans.{recoverable_plan};
 ghost use Rattle.cn_lives.specs.Steps.{held_at, state_at};
 ghost use Rattle.cn_lives.specs.declared.local.Stage.TheVariants.{Act};
 
@@ -40,7 +39,7 @@ pub struct LifeRecord {
 /// A look at this state of the object of a node, before the operation.
 fn look(plan: &RecordingPlan, node: u8, state: State) -> LifeAction
     requires { state.0 < length plan.now.plan.table.states }
-    ensures action { result ≡ look (recoverable_plan plan.now) node state.0 }
+    ensures action { result ≡ look plan.now node state.0 }
     ensures table { IsOfTable plan.now.plan.table result }
 {
     if state == plan.plan().start() {
@@ -74,8 +73,8 @@ fn take_if(plan: &RecordingPlan, turn: Turn, team: Team, held: Option<u64>) -> L
 fn apply(plan: &RecordingPlan, turn: Turn, state: State) -> LifeAction
     requires role { turn.here.role < processes_of plan.now.plan }
     requires state { state.0 < length plan.now.plan.table.states }
-    ensures action { result ≡ action_at (recoverable_plan plan.now) turn.places turn.place
-        turn.value Act turn.here state.0 (λ _. None) }
+    ensures action { result ≡ action_at plan.now turn.places turn.place turn.value Act turn.here
+        state.0 (λ _. None) }
     ensures table { IsOfTable plan.now.plan.table result }
 {
     let here = turn.here;
@@ -99,9 +98,8 @@ pub(crate) fn action_at(
     requires registers { 2 * length objects.now ≤ length registers.now }
     requires role { turn.here.role < processes_of plan.now.plan }
     requires state { state_at objects.now turn.here.node < length plan.now.plan.table.states }
-    ensures action { result ≡ action_at (recoverable_plan plan.now) turn.places turn.place
-        turn.value turn.stage turn.here (state_at objects.now turn.here.node)
-        (held_at registers.now turn.here.node) }
+    ensures action { result ≡ action_at plan.now turn.places turn.place turn.value turn.stage
+        turn.here (state_at objects.now turn.here.node) (held_at registers.now turn.here.node) }
     ensures table { IsOfTable plan.now.plan.table result }
 {
     let node = turn.here.node;

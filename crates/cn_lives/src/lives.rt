@@ -1,22 +1,17 @@
 //! One instance of consensus, one step or crash at a time.
-ghost use Rattle.std.specs.Prelude.{◌≡◌, ◌<◌, ◌++◌, ◌∷◌, [], ℕ, Bool, List, Option, length, map};
+ghost use Rattle.std.specs.Prelude.{◌≡◌, ◌<◌, ◌++◌, ◌∷◌, [], List, length, map};
 ghost use Rattle.std.specs.Prelude.{IfNone, IfOk, IfSome, IsSome};
 ghost use Rattle.cn_proto.specs.Plan.{processes_of};
-ghost use Rattle.cn_consensus.specs.Configuration.{Configuration, step};
-ghost use Rattle.cn_consensus.specs.Types.{all_of};
-ghost use Rattle.cn_solvable.specs.RoundProtocol.{register_of as register_number};
-ghost use Rattle.cn_crashes.specs.Execution.{Event, after_crash as crash_of_protocol};
-ghost use Rattle.cn_crashes.specs.Execution.Event.{Step, Crash};
-ghost use Rattle.cn_crashes.specs.RecoverableRound.{RecoverableLocal};
 ghost use Rattle.cn_lives.specs.Courses.{IsOfTable, action_of};
 ghost use Rattle.cn_lives.specs.Lives.{world_of};
-ghost use Rattle.cn_lives.specs.Mirrors.{Mirrors, inputs_of, lives_protocol};
-ghost use Rattle.cn_lives.specs.Plans.{recoverable_plan};
 ghost use Rattle.cn_lives.specs.Runs.{AreLivesOf, LiveBy, decision_at, first_world};
-ghost use Rattle.cn_lives.specs.Steps.{after_crash, after_step, held_at, local_at, state_at};
+ghost use Rattle.cn_lives.specs.Steps.{after_crash, after_step, held_at, local_at};
+ghost use Rattle.cn_lives.specs.Steps.{register_of as register_number, state_at};
 ghost use Rattle.cn_lives.specs.Turns.{IsTurn};
 ghost use Rattle.cn_lives.specs.declared.local.Local.TheVariants.{Active};
 ghost use Rattle.cn_lives.specs.declared.local.Stage.TheVariants.{Write};
+ghost use Rattle.cn_lives.specs.declared.schedule.Event.{Event};
+ghost use Rattle.cn_lives.specs.declared.schedule.Event.TheVariants.{Step, Crash};
 
 use crate::laws::recording_plans_are_sound;
 use crate::life_action::{LifeAction, action_at};
@@ -33,9 +28,9 @@ use std::alloc::{AllocError, Global};
 /// process crashes, and a local state for each process, which a crash loses. It also keeps the
 /// input of each process. `new` makes all vectors at full length, and no other call takes memory.
 ///
-/// Under every schedule of steps and crashes, all decisions that are ever made are equal, and each
-/// is the input of a process. For n processes, a process that takes 6(n-1) steps without a crash
-/// of its own has decided.
+/// By the laws of `cn_life_laws`, under every schedule of steps and crashes all decisions that are
+/// ever made are equal, and each is the input of a process. For n processes, a process that takes
+/// 6(n-1) steps without a crash of its own has decided.
 #[derive(Debug, Drop)]
 pub struct Lives {
     locals: Vec<Local>,
@@ -97,7 +92,7 @@ impl Lives {
         requires of_plan { LiveBy plan.now (world_of self.now) }
         requires process { p < processes_of plan.now.plan }
         // promise: next-action-of-lives (action_of)
-        ensures action { result ≡ action_of (recoverable_plan plan.now) (world_of self.now) p }
+        ensures action { result ≡ action_of plan.now (world_of self.now) p }
         // promise: next-action-of-lives (IsOfTable)
         ensures table { IsOfTable plan.now.plan.table result }
     {
@@ -113,16 +108,10 @@ impl Lives {
         requires of_plan { LiveBy plan.now (world_of self.old) }
         requires process { p < processes_of plan.now.plan }
         // promise: step-of-lives (after_step)
-        ensures world { world_of self.new
-            ≡ after_step (recoverable_plan plan.now) p (world_of self.old) }
+        ensures world { world_of self.new ≡ after_step plan.now p (world_of self.old) }
         // promise: step-of-lives (AreLivesOf)
         ensures of_plan { (events : List Event) → AreLivesOf plan.now events (world_of self.old)
             → AreLivesOf plan.now (events ++ Step p ∷ []) (world_of self.new) }
-        // promise: step-of-lives (Mirrors)
-        ensures protocol { (f : ℕ → Bool) (c : Configuration RecoverableLocal (Option Bool))
-            → Mirrors plan.now f (world_of self.old) c
-            → Mirrors plan.now f (world_of self.new)
-            (step (all_of plan.now.plan.table) (lives_protocol plan.now) c p) }
     {
         recording_plans_are_sound(plan);
         if let Some(turn) = self.turn(plan, p) {
@@ -143,11 +132,6 @@ impl Lives {
         // promise: step-of-lives (AreLivesOf)
         ensures of_plan { (events : List Event) → AreLivesOf plan.now events (world_of self.old)
             → AreLivesOf plan.now (events ++ Crash p ∷ []) (world_of self.new) }
-        // promise: step-of-lives (Mirrors)
-        ensures protocol { (f : ℕ → Bool) (c : Configuration RecoverableLocal (Option Bool))
-            → Mirrors plan.now f (world_of self.old) c
-            → Mirrors plan.now f (world_of self.new) (crash_of_protocol (lives_protocol plan.now)
-            (inputs_of f (world_of self.old).inputs) c p) }
     {
         recording_plans_are_sound(plan);
         self.locals[usize::from(p)] = Local::first(self.inputs[usize::from(p)]);

@@ -5,7 +5,7 @@ ghost use Rattle.cn_choice.specs.declared.team.Team.TheVariants.{A};
 ghost use Rattle.cn_outcomes.specs.LeftStates.{LeavesIn};
 ghost use Rattle.cn_recover.specs.Recording.{IsRecordingWitness};
 ghost use Rattle.cn_lives.specs.Plans.{AreTeamsOf, IsRecordingPlan, IsRecordingPlanned};
-ghost use Rattle.cn_lives.specs.Plans.{exchanged, recoverable_plan};
+ghost use Rattle.cn_lives.specs.Plans.{exchanged, is_lone, judge};
 
 use crate::fault::RecordingFault;
 use cn_choice::{Choice, RawChoice, Team};
@@ -79,7 +79,7 @@ impl RecordingPlan {
     pub fn judge(&self, state: State) -> Team
         requires { state.0 < length self.now.plan.table.states }
         // promise: parts-of-a-recording-plan
-        ensures { result ≡ (recoverable_plan self.now).judge state.0 }
+        ensures { result ≡ judge self.now state.0 }
     {
         self.first_teams[usize::from(state.0)]
     }
@@ -87,7 +87,7 @@ impl RecordingPlan {
     /// Whether team A is one process alone.
     pub fn is_lone(&self) -> bool
         // promise: parts-of-a-recording-plan
-        ensures { result ≡ (recoverable_plan self.now).lone }
+        ensures { result ≡ is_lone self.now }
     {
         plans_are_sound(&self.plan);
         self.plan.team(1) == Team::B

@@ -5,14 +5,12 @@ ghost use Rattle.cn_proto.specs.Plan.{processes_of};
 ghost use Rattle.cn_agree.specs.Schedules.{schedule_fault};
 ghost use Rattle.cn_agree.specs.declared.fault.ScheduleFault.{ScheduleFault as FaultOf};
 ghost use Rattle.cn_agree.specs.declared.fault.ScheduleFault.TheVariants.{OutOfMemory};
-ghost use Rattle.cn_lives.specs.Consensus.{IsRecoverableConsensus};
 ghost use Rattle.cn_lives.specs.Lives.{world_of};
-ghost use Rattle.cn_lives.specs.Plans.{recoverable_plan};
-ghost use Rattle.cn_lives.specs.Runs.{AreLivesOf, LiveBy, after_event, after_events, first_world};
-ghost use Rattle.cn_lives.specs.Schedules.{decisions_after, decisions_of, event_of, execution_of};
+ghost use Rattle.cn_lives.specs.Runs.{AreLivesOf, LiveBy, after_event, after_events};
+ghost use Rattle.cn_lives.specs.Runs.{decisions_after, decisions_of, first_world};
 ghost use Rattle.cn_lives.specs.Schedules.{named, process_of};
 
-use crate::laws::{lives_reach_consensus, recording_plans_are_sound};
+use crate::laws::recording_plans_are_sound;
 use crate::lives::Lives;
 use crate::plan::RecordingPlan;
 use cn_agree::{Decided, ScheduleFault};
@@ -65,8 +63,7 @@ fn fault_of(plan: &RecordingPlan, inputs: &[u64], schedule: &[Event]) -> Option<
 pub(crate) fn take_event(plan: &RecordingPlan, lives: &mut Lives, event: Event)
     requires of_plan { LiveBy plan.now (world_of lives.old) }
     requires process { process_of event < processes_of plan.now.plan }
-    ensures world { world_of lives.new
-        ≡ after_event (recoverable_plan plan.now) (world_of lives.old) (event_of event) }
+    ensures world { world_of lives.new ≡ after_event plan.now (world_of lives.old) event }
     ensures of_plan { LiveBy plan.now (world_of lives.new) }
 {
     match event {
@@ -80,8 +77,7 @@ fn take_all(plan: &RecordingPlan, lives: &mut Lives, schedule: &[Event])
     requires of_plan { LiveBy plan.now (world_of lives.old) }
     requires schedule { All (λ e. process_of e < processes_of plan.now.plan) schedule.now }
     ensures world { world_of lives.new
-        ≡ after_events (recoverable_plan plan.now) (execution_of schedule.now)
-        (world_of lives.old) }
+        ≡ after_events plan.now schedule.now (world_of lives.old) }
     ensures of_plan { LiveBy plan.now (world_of lives.new) }
 {
     for event in schedule {
@@ -135,7 +131,7 @@ pub(crate) fn first_lives(
 /// A schedule is a list of events, of any processes in any number and any order. A process that has
 /// decided takes no step, until it crashes.
 ///
-/// Under every schedule this is consensus:
+/// Under every schedule this is consensus, by a law of `cn_life_laws` (`lives_reach_consensus`):
 ///
 /// - all decisions that are ever made are equal, also those of one process before and after a
 ///   crash;
@@ -156,9 +152,6 @@ pub fn run_lives(
     // promise: decisions-of-lives (decisions_after)
     ensures decisions { IfOk result (λ d. d.decisions
         ≡ decisions_after plan.now inputs.now schedule.now) }
-    // promise: consensus-of-lives (IsRecoverableConsensus: agreement, validity, wait_free)
-    ensures consensus { OnOk result (IsRecoverableConsensus plan.now inputs.now
-        (execution_of schedule.now)) }
     // promise: refusals-of-lives
     ensures run { OnOk result (schedule_fault (processes_of plan.now.plan) inputs.now
         (named schedule.now) ≡ None) }
@@ -172,7 +165,6 @@ pub fn run_lives(
         ≡ Some e)) }
 {
     recording_plans_are_sound(plan);
-    lives_reach_consensus(plan);
     let mut lives = first_lives(alloc, plan, inputs, schedule)?;
     take_all(plan, &mut lives, schedule);
     Ok(Decided {

@@ -1,10 +1,8 @@
 //! The actions of a process at a place of its path.
 ghost use Rattle.std.specs.Prelude.{◌≡◌, ◌<◌, ◌≤◌, ◌+◌, ◌*◌, length};
 ghost use Rattle.cn_proto.specs.Plan.{processes_of};
-ghost use Rattle.cn_solvable.specs.RoundProtocol.{register_of};
-ghost use Rattle.cn_lives.specs.Plans.{recoverable_plan};
 ghost use Rattle.cn_lives.specs.Steps.{held_at, local_after, objects_after, onward, onward_if};
-ghost use Rattle.cn_lives.specs.Steps.{registers_after, stage_seen, state_at};
+ghost use Rattle.cn_lives.specs.Steps.{register_of, registers_after, stage_seen, state_at};
 ghost use Rattle.cn_lives.specs.declared.local.Local.TheVariants.{Active};
 
 use crate::local::{Local, Stage};
@@ -67,7 +65,7 @@ pub(crate) fn register_of(node: u8, team: Team) -> usize
 /// The stage of a process of this team after a look at this state.
 fn stage_seen(plan: &RecordingPlan, team: Team, state: State) -> Stage
     requires { state.0 < length plan.now.plan.table.states }
-    ensures { result ≡ stage_seen (recoverable_plan plan.now) team state.0 }
+    ensures { result ≡ stage_seen plan.now team state.0 }
 {
     if state != plan.plan().start() {
         Stage::Take(plan.judge(state))
@@ -89,8 +87,8 @@ pub(crate) fn local_after(
     requires node { turn.here.node < length objects.now }
     requires registers { 2 * length objects.now ≤ length registers.now }
     requires state { state_at objects.now turn.here.node < length plan.now.plan.table.states }
-    ensures { result ≡ local_after (recoverable_plan plan.now) turn.places turn.place turn.value
-        turn.stage turn.here (state_at objects.now turn.here.node)
+    ensures { result ≡ local_after plan.now turn.places turn.place turn.value turn.stage turn.here
+        (state_at objects.now turn.here.node)
         (held_at registers.now turn.here.node) }
 {
     let node = turn.here.node;
@@ -119,8 +117,7 @@ pub(crate) fn share(
     requires state { state_at objects.old turn.here.node < length plan.now.plan.table.states }
     ensures registers { registers.new
         ≡ registers_after turn.value turn.stage turn.here registers.old }
-    ensures objects { objects.new
-        ≡ objects_after (recoverable_plan plan.now) turn.stage turn.here objects.old }
+    ensures objects { objects.new ≡ objects_after plan.now turn.stage turn.here objects.old }
 {
     let here = turn.here;
     match turn.stage {

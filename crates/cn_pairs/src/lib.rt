@@ -2,8 +2,7 @@
 //!
 //! [`pairs_of`] answers the number of each operation alone and of each pair of operations, and the
 //! smallest sets of operations with the number of the type. [`number_with`] answers the number of a
-//! type with a set of operations, [`set_numbers`] those of all sets of one size, and
-//! [`smallest_sets`] the smallest sets with a number.
+//! type with a set of operations, and [`set_numbers`] those of all sets of one size.
 //!
 //! ```text
 //! for pair in pairs_of(rt, alloc, &table)?.pairs.as_slice() {
@@ -22,4 +21,4 @@ mod smallest;
 
 pub use pairs::{Pairs, pairs_of};
 pub use restricted::{SetNumber, number_with, set_numbers};
-pub use smallest::{MOST_SETS, smallest_sets};
+pub use smallest::MOST_SETS;

@@ -74,8 +74,9 @@ fn larger_sets<T: Threads + Sync>(
     Ok(Vec::new(alloc))
 }
 
-/// The smallest sets of operations that have this number, as [`smallest_sets`] answers them, from
-/// the numbers of each operation alone and of each pair.
+/// The smallest sets of operations that have this number, from the numbers of each operation alone
+/// and of each pair: sets of one size, in lexicographic order of their ascending lists, and at most
+/// [`MOST_SETS`] of them. There is none if no set of operations has the number.
 fn smallest_after_pairs<T: Threads + Sync>(
     rt: &T,
     alloc: Global,
@@ -86,8 +87,10 @@ fn smallest_after_pairs<T: Threads + Sync>(
 ) -> Result<Vec<Vec<Operation>>, AllocError>
     requires alone { AreSetNumbers table.now 1 alone.now }
     requires pairs { AreSetNumbers table.now 2 pairs.now }
+    // promise: numbers-of-some-operations (AreSmallest)
     ensures found { IfOk result (λ sets. sets.items ≢ []
         → AreSmallest table.now number (set_lists sets)) }
+    // promise: numbers-of-some-operations (NoneHas)
     ensures none { IfOk result (λ sets. sets.items ≡ [] → (size : ℕ) → 1 ≤ size
         → size ≤ length table.now.operations → NoneHas table.now size number) }
 {
@@ -145,29 +148,4 @@ pub(crate) fn smallest_with<T: Threads + Sync>(
         ConsensusNumber::Between(least, most) => whole_set(alloc, table, least, most),
         _ => smallest_after_pairs(rt, alloc, table, number, alone, pairs),
     }
-}
-
-/// The smallest sets of operations that have this number: of one size, in lexicographic order of
-/// their ascending lists, and at most [`MOST_SETS`] of them. There is none if no set of operations
-/// has the number.
-///
-/// # Errors
-///
-/// `AllocError` if memory is too little for one thread.
-pub fn smallest_sets<T: Threads + Sync>(
-    rt: &T,
-    alloc: Global,
-    table: &Table,
-    number: ConsensusNumber,
-) -> Result<Vec<Vec<Operation>>, AllocError>
-    // promise: numbers-of-some-operations (AreSmallest)
-    ensures found { IfOk result (λ sets. sets.items ≢ []
-        → AreSmallest table.now number (set_lists sets)) }
-    // promise: numbers-of-some-operations (NoneHas)
-    ensures none { IfOk result (λ sets. sets.items ≡ [] → (size : ℕ) → 1 ≤ size
-        → size ≤ length table.now.operations → NoneHas table.now size number) }
-{
-    let alone = set_numbers(rt, alloc, table, 1)?;
-    let pairs = set_numbers(rt, alloc, table, 2)?;
-    smallest_after_pairs(rt, alloc, table, number, alone.as_slice(), pairs.as_slice())
 }

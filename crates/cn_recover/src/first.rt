@@ -2,7 +2,7 @@
 ghost use Rattle.std.specs.Prelude.{◌≤◌, IfOk};
 ghost use Rattle.cn_choice.specs.Live.{live_choices};
 ghost use Rattle.cn_choice.specs.declared.limits.TheConstants.{MOST_PROCESSES};
-ghost use Rattle.cn_search.specs.Evidence.{IsFirstAmong};
+ghost use Rattle.cn_finding.specs.Evidence.{IsFirstAmong};
 ghost use Rattle.cn_recover.specs.Recording.{IsRecordingWitness};
 
 use crate::is_recording_witness;

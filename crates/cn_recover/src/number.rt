@@ -4,7 +4,7 @@ ghost use Rattle.cn_choice.specs.Discerning.{IsDiscerning};
 ghost use Rattle.cn_stocks.specs.declared.limits.TheConstants.{MOST_SIZE};
 ghost use Rattle.cn_search.specs.Faults.{number_fault};
 ghost use Rattle.cn_search.specs.Numbers.{HasNumber};
-ghost use Rattle.cn_search.specs.declared.limits.TheConstants.{LEAST_LIMIT};
+ghost use Rattle.cn_finding.specs.declared.limits.TheConstants.{LEAST_LIMIT};
 ghost use Rattle.cn_search.specs.declared.fault.FindFault.{FindFault};
 ghost use Rattle.cn_search.specs.declared.fault.FindFault.TheVariants.{OutOfMemory};
 ghost use Rattle.cn_recover.specs.Recording.{HasRecoverableNumber, IsExact, IsRecoverableNumberUpTo};

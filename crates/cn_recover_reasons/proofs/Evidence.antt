@@ -1,18 +1,14 @@
 -- The evidence for a recoverable number, from what is known of it.
-use Rattle.std.proofs.Common.{◌≡◌, ◌∙◌, ◌↔◌, ℕ, zero, suc, ◌+◌, ◌-◌, ◌≤◌, List, ◌∷◌, length, length-append, min, slice_index_or, Bool, true, false, cond, Contains, Some, None, refl, sym, subst, arith}
-use Rattle.std.specs.Prelude.{nat_le, ◌&&◌}
+use Rattle.std.proofs.Common.{◌≡◌, ◌∙◌, ◌↔◌, ℕ, zero, suc, ◌+◌, ◌-◌, ◌≤◌, List, ◌∷◌, length, length-append, min, slice_index_or, Contains, refl, sym, subst, arith}
 use Rattle.std.proofs.lemmas.List.{get_or_default}
 use Rattle.std.proofs.lemmas.List.Elements.{Contains-append_right}
-use Rattle.std.proofs.lemmas.Bool.{and_parts, leb-true}
 use Rattle.arrayvec.specs.ArrayVec.{ArrayVec}
 use Rattle.cn_table.specs.TypeTable.{TypeTable}
-use Rattle.cn_choice.specs.Canonical.{Choice, FitsTable, IsCanonical, canonical_choices, raw_choice_of}
+use Rattle.cn_choice.specs.Canonical.{Choice, FitsTable, IsCanonical, raw_choice_of}
 use Rattle.cn_choice.specs.GreatestNumbers.{PassesDown}
 use Rattle.cn_choice.specs.Live.{IsLive, live_choices}
 use Rattle.cn_choice.specs.RawChoices.{IsRawChoice, RawChoice}
-use Rattle.cn_search.specs.Evidence.{IsFirst, NoneIs}
-use Rattle.cn_search.specs.Faults.{count_fault, find_fault}
-use Rattle.cn_search.specs.declared.fault.FindFault.TheVariants.{BadLimit}
+use Rattle.cn_finding.specs.Evidence.{IsFirst, NoneIs}
 use Rattle.cn_search.specs.declared.exact.ConsensusNumber.{ConsensusNumber}
 use Rattle.cn_search.specs.declared.exact.ConsensusNumber.TheVariants.{Finite, Infinite, Between}
 use Rattle.cn_recover.specs.Recording.{HasRecoverableNumber, IsExact, IsRecording, IsRecordingWitness}
@@ -26,14 +22,6 @@ at_less P below n m two less is = by_steps (n - m) (subst P (omega arith) is)
     by_steps : (k : ℕ) → P (m + k) → P m
     by_steps zero is = subst P (omega arith) is
     by_steps (suc k) is = by_steps k (subst P (omega arith) (below (m + suc k) (omega arith) is))
-
--- a limit with no fault is from 2 to 8
-pub limit_within : (states operations limit : ℕ) → find_fault states operations limit ≡ None → (2 ≤ limit) × (limit ≤ 8)
-limit_within states operations limit e = by_test (nat_le 2 limit && nat_le limit 8) refl e
-  where
-    by_test : (b : Bool) → (nat_le 2 limit && nat_le limit 8) ≡ b → cond b (count_fault (length (canonical_choices states operations limit))) (Some BadLimit) ≡ None → (2 ≤ limit) × (limit ≤ 8)
-    by_test true t f = let parts = and_parts (nat_le 2 limit) (nat_le limit 8) t in (leb-true 2 limit parts.0, leb-true limit 8 parts.1)
-    by_test false t f = absurd (cc f)
 
 module _ (t : TypeTable) where
   pub fits_for : (n : ℕ) (c : Choice) → 2 ≤ n → n ≤ 8 → IsRawChoice t n (raw_choice_of c) → FitsTable t c

@@ -24,7 +24,8 @@ use Rattle.cn_recover_reasons.specs.declared.refuted.Refutation.{Refutation}
 use Rattle.cn_recover_reasons.specs.declared.refuted.Refuted.{Refuted}
 use Rattle.cn_recover_reasons.specs.declared.value.RecordingWitness.{RecordingWitness}
 use Rattle.cn_recover_reasons.specs.declared.value.RecoverableExplanation.{RecoverableExplanation}
-use Rattle.cn_recover_reasons.proofs.Evidence.{first_fits, limit_within, listed_fits}
+use Rattle.cn_search.proofs.LimitLemmas.{limit_within}
+use Rattle.cn_recover_reasons.proofs.Evidence.{first_fits, listed_fits}
 
 module _ (t : TypeTable) (is : IsTypeTable t) where
   -- a run stays within the states

@@ -8,7 +8,7 @@ use Rattle.cn_choice.specs.RawChoices.{RawChoice}
 use Rattle.cn_choice.specs.declared.team.Team.{Team}
 use Rattle.cn_choice.specs.declared.team.Team.TheVariants.{A, B}
 use Rattle.cn_outcomes.specs.LeftStates.{LeavesIn}
-use Rattle.cn_search.specs.Evidence.{IsFirst}
+use Rattle.cn_finding.specs.Evidence.{IsFirst}
 use Rattle.cn_search.specs.GreatestLimit.{IsGreatestLimit}
 use Rattle.cn_search.specs.declared.exact.ConsensusNumber.{ConsensusNumber}
 use Rattle.cn_search.specs.declared.exact.ConsensusNumber.TheVariants.{Finite, Infinite, Between}

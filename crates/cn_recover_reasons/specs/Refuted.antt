@@ -4,7 +4,7 @@ use Rattle.std.specs.List.{AllZip}
 use Rattle.cn_table.specs.TypeTable.{TypeTable}
 use Rattle.cn_choice.specs.Canonical.{Choice, raw_choice_of}
 use Rattle.cn_choice.specs.Live.{live_choices}
-use Rattle.cn_forms.specs.declared.limits.TheConstants.{MOST_TOLD}
+use Rattle.cn_form.specs.declared.limits.TheConstants.{MOST_TOLD}
 use Rattle.cn_recover_reasons.specs.NotRecording.{IsReason}
 use Rattle.cn_recover_reasons.specs.declared.refuted.Refutation.{Refutation}
 use Rattle.cn_recover_reasons.specs.declared.refuted.Refuted.{Refuted}

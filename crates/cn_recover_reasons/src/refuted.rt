@@ -5,7 +5,7 @@ ghost use Rattle.cn_choice.specs.Live.{live_choices};
 ghost use Rattle.cn_choice.specs.RawChoices.{IsRawChoice};
 ghost use Rattle.cn_choice.specs.declared.limits.TheConstants.{MOST_PROCESSES};
 ghost use Rattle.cn_recover.specs.Recording.{IsRecordingWitness};
-ghost use Rattle.cn_search.specs.Evidence.{NoneIs};
+ghost use Rattle.cn_finding.specs.Evidence.{NoneIs};
 ghost use Rattle.cn_recover_reasons.specs.AllOrders.{AreAllOrders};
 ghost use Rattle.cn_recover_reasons.specs.Refuted.{AreTold, IsRefutation, IsRefuted};
 
@@ -15,7 +15,7 @@ use arrayvec::ArrayVec;
 use cn_choice::laws::live_list;
 use cn_choice::reference::plain_orders;
 use cn_choice::{Choice, Choices, MOST_PROCESSES};
-use cn_forms::MOST_TOLD;
+use cn_form::MOST_TOLD;
 use cn_table::Table;
 use std::alloc::{AllocError, Global};
 
@@ -58,7 +58,7 @@ fn refuted_choice(
 }
 
 /// Tells the choice with its reason, if all are told, or fewer than
-/// [`MOST_TOLD`](cn_forms::MOST_TOLD) so far.
+/// [`MOST_TOLD`](cn_form::MOST_TOLD) so far.
 fn tell(
     told: &mut Vec<Refuted>,
     table: &Table,
@@ -83,7 +83,7 @@ fn tell(
 }
 
 /// The reasons for all live canonical choices for n processes, or for the first
-/// [`MOST_TOLD`](cn_forms::MOST_TOLD) of them, and their number. None of them is a recording
+/// [`MOST_TOLD`](cn_form::MOST_TOLD) of them, and their number. None of them is a recording
 /// witness, and n is from 2 to [`MOST_PROCESSES`](cn_choice::MOST_PROCESSES).
 ///
 /// # Errors

@@ -159,7 +159,7 @@ fn no_more(
 
 impl RecoverableExplanation {
     /// The explanation of the recoverable number of a type with no limit. It tells all choices for
-    /// one process more, or the first [`MOST_TOLD`](cn_forms::MOST_TOLD). `rt` starts the threads of
+    /// one process more, or the first [`MOST_TOLD`](cn_form::MOST_TOLD). `rt` starts the threads of
     /// the searches.
     ///
     /// At most as many processes are searched as [`find`](cn_search::find) takes for the table

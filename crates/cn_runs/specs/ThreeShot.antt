@@ -1,5 +1,5 @@
 -- The plan of three_shot for 3 processes, and runs of its protocol: inputs, schedule, decisions.
--- `tests/schedules PROGRAM --write` writes this file from what `show` and `agree` print.
+-- `tests/protocols/schedules PROGRAM --write` writes this file from what `show` and `agree` print.
 use Rattle.std.specs.Prelude.{codes, List, [], ◌∷◌}
 use Rattle.cn_proto.specs.Plan.{Plan}
 use Rattle.cn_runs.specs.Runs.{Run, run}

@@ -11,7 +11,8 @@ use Rattle.cn_choice.specs.Canonical.{Choice, raw_choice_of}
 use Rattle.cn_choice.specs.Collisions.{Collision}
 use Rattle.cn_choice.specs.Discerning.{IsWitness}
 use Rattle.cn_choice.specs.RawChoices.{RawChoice}
-use Rattle.cn_search.specs.Evidence.{IsListedBlock, IsRefutedBlock, AreRecordedFor, IsFirst, IsFirstAmong, IsRecordedFor, NoneIs, NoneIsWitness, choices_of_all}
+use Rattle.cn_finding.specs.Evidence.{AreRecordedFor, IsFirst, IsFirstAmong, IsRecordedFor, NoneIs, NoneIsWitness}
+use Rattle.cn_search.specs.Search.{IsListedBlock, IsRefutedBlock, choices_of_all}
 use Rattle.cn_choice.specs.Live.{live_blocks, live_in}
 use Rattle.cn_collisions.specs.declared.sets.Sets.{Sets}
 use Rattle.cn_collisions.specs.Levels.{AreSetsFor}

@@ -8,7 +8,8 @@ use Rattle.cn_choice.specs.GreatestNumbers.{IsGreatestUpTo, PassesDown}
 use Rattle.cn_choice.proofs.NumberLemmas.GreatestNumbers.{greatest_at, no_greatest}
 use Rattle.cn_stocks.specs.Greatest.{NoneFrom}
 use Rattle.cn_stocks.specs.Splits.{SomeSplits}
-use Rattle.cn_search.specs.Evidence.{IsFirstAmong, IsFirstWitness, IsKnownAt, NoneIsWitness}
+use Rattle.cn_finding.specs.Evidence.{IsFirstAmong, IsFirstWitness, NoneIsWitness}
+use Rattle.cn_search.specs.Search.{IsKnownAt}
 use Rattle.cn_search.specs.Numbers.{HasNumber}
 use Rattle.cn_search.specs.declared.exact.ConsensusNumber.TheVariants.{Finite, Between}
 use Rattle.cn_choice.specs.Live.{live_choices}

@@ -10,7 +10,8 @@ use Rattle.cn_choice.specs.Discerning.{IsWitness}
 use Rattle.cn_choice.specs.Live.{IsLiveIn, live_blocks, live_in}
 use Rattle.cn_choice.specs.RawChoices.{IsRawChoice, RawChoice}
 use Rattle.cn_stocks.specs.Splits.{AreSplittingStarts, SplitsFrom}
-use Rattle.cn_search.specs.Evidence.{HasStarts, HaveFirstOf, IsFirstWitness, IsListedBlock, NoneIsWitness, choices_of_all}
+use Rattle.cn_finding.specs.Evidence.{IsFirstWitness, NoneIsWitness}
+use Rattle.cn_search.specs.Search.{HasStarts, HaveFirstOf, IsListedBlock, choices_of_all}
 use Rattle.cn_search.proofs.Batches.{ahead, behind, choices_more, parts_of}
 
 module _ (t : TypeTable) where

@@ -3,9 +3,9 @@ use Rattle.std.specs.Prelude.{ℕ, List}
 use Rattle.cn_table.specs.TypeTable.{TypeTable}
 use Rattle.cn_choice.specs.Canonical.{Choice}
 use Rattle.cn_choice.specs.Collisions.{Collision}
-use Rattle.cn_search.specs.declared.finding.Outline.{Outline}
-use Rattle.cn_search.specs.Evidence.{AreRecordedFor, IsFindingFor}
-use Rattle.cn_search.specs.Finding.{Finding}
+use Rattle.cn_search.specs.declared.outline.Outline.{Outline}
+use Rattle.cn_finding.specs.Evidence.{AreRecordedFor, IsFindingFor}
+use Rattle.cn_finding.specs.Finding.{Finding}
 
 -- the form keeps the recorded collision of each choice of the list, in their order
 pub record KeepsFor {E : Type 0} (keeps : E → List Collision → Type 0) (t : TypeTable)

@@ -3,7 +3,7 @@ use Rattle.cn_table.specs.TypeTable.{TypeTable}
 use Rattle.cn_choice.specs.Blocks.{Block}
 use Rattle.cn_collisions.specs.declared.sets.Sets.{Sets}
 use Rattle.cn_collisions.specs.Levels.{AreSetsFor}
-use Rattle.cn_search.specs.Evidence.{IsRefutedBlock}
+use Rattle.cn_search.specs.Search.{IsRefutedBlock}
 
 -- no live choice of the block is a witness, and the sets are those of the type for its number of
 -- processes

@@ -5,11 +5,11 @@ ghost use Rattle.cn_stocks.specs.Greatest.{IsGreatestSplit};
 ghost use Rattle.cn_stocks.specs.declared.limits.TheConstants.{MOST_SIZE};
 ghost use Rattle.cn_stocks.specs.Lasting.{NoneLast};
 ghost use Rattle.cn_search.specs.Numbers.{HasNumber};
-ghost use Rattle.cn_search.specs.declared.limits.TheConstants.{GREATEST_LIMIT, LEAST_LIMIT};
+ghost use Rattle.cn_finding.specs.declared.limits.TheConstants.{GREATEST_LIMIT, LEAST_LIMIT};
 
 use crate::fallback::with_fallback;
-use crate::limits::LEAST_LIMIT;
 use crate::numbers::{LEAST_WITHOUT_TEAMS, decide};
+use cn_finding::LEAST_LIMIT;
 use cn_stocks::lasting::find_lasting;
 use cn_stocks::lasting::laws::{finite_numbers_are_few, lasting_operations_decide};
 use cn_stocks::laws::splits_decide;

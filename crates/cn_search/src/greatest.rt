@@ -2,8 +2,9 @@
 ghost use Rattle.std.specs.Prelude.{length};
 ghost use Rattle.cn_search.specs.GreatestLimit.{IsGreatestLimit};
 
-use crate::limits::{GREATEST_LIMIT, LEAST_LIMIT, MOST_CHOICES};
+use crate::limits::MOST_CHOICES;
 use cn_choice::{count, laws};
+use cn_finding::{GREATEST_LIMIT, LEAST_LIMIT};
 use cn_table::Table;
 
 /// The greatest limit that [`find`](crate::find) does not refuse for this table: each table has

@@ -6,7 +6,8 @@ ghost use Rattle.cn_choice.specs.Discerning.{IsWitness};
 ghost use Rattle.cn_choice.specs.Live.{live_blocks, live_choices, live_in};
 ghost use Rattle.cn_choice.specs.RawChoices.{IsRawChoice};
 ghost use Rattle.cn_choice.specs.declared.limits.TheConstants.{MOST_PROCESSES};
-ghost use Rattle.cn_search.specs.Evidence.{IsFirst, IsFirstAmong, IsListedBlock, choices_of_all};
+ghost use Rattle.cn_finding.specs.Evidence.{IsFirst, IsFirstAmong};
+ghost use Rattle.cn_search.specs.Search.{IsListedBlock, choices_of_all};
 ghost use Rattle.cn_search.specs.declared.kind.TheConstants.{MOST_IN_ONE_THREAD};
 ghost use Rattle.cn_stocks.specs.declared.threading.Threading.TheVariants.{One};
 

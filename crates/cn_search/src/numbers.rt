@@ -2,10 +2,10 @@
 ghost use Rattle.std.specs.Prelude.{◌≡◌, ◌<◌, ◌≤◌, ◌⊎◌, ◌↔◌, Err, IfErr, IfOk, IsTrue, MatchOption, None, OnOk, Some};
 ghost use Rattle.cn_choice.specs.Discerning.{IsDiscerning, IsNumberUpTo};
 ghost use Rattle.cn_choice.specs.declared.limits.TheConstants.{MOST_PROCESSES};
-ghost use Rattle.cn_search.specs.Evidence.{IsKnownAt};
+ghost use Rattle.cn_search.specs.Search.{IsKnownAt};
 ghost use Rattle.cn_search.specs.Faults.{number_fault};
 ghost use Rattle.cn_search.specs.declared.numbers.TheConstants.{LEAST_WITHOUT_TEAMS};
-ghost use Rattle.cn_search.specs.declared.limits.TheConstants.{GREATEST_LIMIT, LEAST_LIMIT};
+ghost use Rattle.cn_finding.specs.declared.limits.TheConstants.{GREATEST_LIMIT, LEAST_LIMIT};
 ghost use Rattle.cn_search.specs.declared.fault.FindFault.{FindFault};
 ghost use Rattle.cn_search.specs.declared.fault.FindFault.TheVariants.{OutOfMemory};
 
@@ -168,7 +168,7 @@ pub(crate) fn greatest_number<T: Threads + Sync>(
 /// limit for which the type is n-discerning, if there is one.
 ///
 /// It is the number of the [`Finding`](crate::Finding) of the type and the limit
-/// ([`laws::number_of_finding`](crate::laws::number_of_finding)), and of a type with any number of
+/// ([`number_of_finding`](cn_finding::laws::number_of_finding)), and of a type with any number of
 /// choices. Few choices are searched as far as the first witness; if there are many, stocks of
 /// operations decide. Both go on in several threads, or in one if these get too little memory.
 ///

@@ -1,7 +1,7 @@
 //! The evidence of many blocks, made part by part by several threads.
 ghost use Rattle.std.specs.Prelude.{All, IfOk, IfSome};
 ghost use Rattle.cn_choice.specs.Live.{live_in};
-ghost use Rattle.cn_search.specs.Evidence.{choices_of_all};
+ghost use Rattle.cn_search.specs.Search.{choices_of_all};
 ghost use Rattle.cn_search.specs.Kept.{KeepsFor};
 ghost use Rattle.cn_search.specs.Parts.{AreSlots, IsPartOf};
 ghost use Rattle.cn_search.specs.Refuted.{IsRefutedWith};

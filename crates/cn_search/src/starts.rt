@@ -2,7 +2,7 @@
 ghost use Rattle.std.specs.Prelude.{◌≡◌, ◌≤◌, All, IfOk};
 ghost use Rattle.cn_choice.specs.Live.{live_blocks};
 ghost use Rattle.cn_choice.specs.declared.limits.TheConstants.{MOST_PROCESSES};
-ghost use Rattle.cn_search.specs.Evidence.{HaveFirstOf, IsListedBlock};
+ghost use Rattle.cn_search.specs.Search.{HaveFirstOf, IsListedBlock};
 
 use cn_choice::{Block, Blocks, laws};
 use cn_outcomes::bits::contains;

@@ -9,9 +9,9 @@ use Rattle.clap.specs.Matches.{ReadsOne, matched_of, one_text, raw_values}
 use Rattle.clap.specs.Walk.{Row, Text, first_of, one_of, row_text, rows_of}
 use Rattle.clap.specs.declared.parser.matches.Found.{Found}
 use Rattle.clap.proofs.WalkLemmas.{one_text-rows, raw_values-rows}
-use Rattle.cn_json.specs.declared.form.DocumentForm.{DocumentForm}
-use Rattle.cn_forms.specs.declared.plan_forms.Form.{Form}
-use Rattle.cn_json.specs.declared.form.AnswerForm.{AnswerForm}
+use Rattle.cn_form.specs.declared.answer_form.DocumentForm.{DocumentForm}
+use Rattle.cn_form.specs.declared.plan_form.PlanForm.{PlanForm}
+use Rattle.cn_form.specs.declared.answer_form.AnswerForm.{AnswerForm}
 use Rattle.cn_words.specs.declared.commands.Command.{Command}
 use Rattle.cn_words.specs.declared.commands.Command.TheVariants.{Find, Lint, Draw, Check, Explain, Why, WhyRecoverable, Pairs, Show, Agree, Replay, Serve}
 use Rattle.cn_words.specs.declared.commands.Invocation.{Invocation}
@@ -103,7 +103,7 @@ Wants name rows =
     (MatchBool (bytes_eq name (codes "why"))
     (MatchBool (is_flag_set (codes "recoverable") rows) (first_of (codes "limit") rows ≡ None) ((n : Option ℕ) × HasLimit rows n) × ((form : DocumentForm) × HasDocumentForm rows form))
     (MatchBool (bytes_eq name (codes "pairs")) ((form : DocumentForm) × HasDocumentForm rows form)
-    (MatchBool (bytes_eq name (codes "show")) (((w : TextSource) × HasCertificate rows w) × ((plan : Form) × HasForm rows plan))
+    (MatchBool (bytes_eq name (codes "show")) (((w : TextSource) × HasCertificate rows w) × ((plan : PlanForm) × HasForm rows plan))
     (MatchBool (bytes_eq name (codes "agree"))
     (((w : TextSource) × HasCertificate rows w) × ((l : Bor Text) × HasWord (codes "INPUTS") rows l.now) × ((l : Bor Text) × HasWord (codes "SCHEDULE") rows l.now)
     × ((form : AnswerForm) × HasAnswerForm rows form) × (is_of_lives rows ≡ false))

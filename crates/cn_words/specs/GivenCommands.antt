@@ -9,12 +9,12 @@ use Rattle.clap.specs.Matches.{found_of}
 use Rattle.clap.specs.Simple.{subcommand_rows_of}
 use Rattle.clap.specs.Walk.{Row, Text, all_of, first_of, one_of, rows_of}
 use Rattle.clap.specs.declared.parser.matches.ArgMatches.{ArgMatches}
-use Rattle.cn_json.specs.declared.form.DocumentForm.{DocumentForm}
-use Rattle.cn_json.specs.declared.form.DocumentForm.TheVariants as document
-use Rattle.cn_forms.specs.declared.plan_forms.Form.{Form}
-use Rattle.cn_forms.specs.declared.plan_forms.Form.TheVariants as form
-use Rattle.cn_json.specs.declared.form.AnswerForm.{AnswerForm}
-use Rattle.cn_json.specs.declared.form.AnswerForm.TheVariants as answer
+use Rattle.cn_form.specs.declared.answer_form.DocumentForm.{DocumentForm}
+use Rattle.cn_form.specs.declared.answer_form.DocumentForm.TheVariants as document
+use Rattle.cn_form.specs.declared.plan_form.PlanForm.{PlanForm}
+use Rattle.cn_form.specs.declared.plan_form.PlanForm.TheVariants as form
+use Rattle.cn_form.specs.declared.answer_form.AnswerForm.{AnswerForm}
+use Rattle.cn_form.specs.declared.answer_form.AnswerForm.TheVariants as answer
 use Rattle.cn_words.specs.declared.commands.Command.{Command}
 use Rattle.cn_words.specs.declared.commands.Command.TheVariants.{Find, Lint, Draw, Check}
 use Rattle.cn_words.specs.declared.commands.Command.TheVariants.{Explain, Why, WhyRecoverable}
@@ -70,7 +70,7 @@ HasFlag id rows is_set = (one_of id rows ≡ Some (codes "true") → is_set ≡ 
 abbrev pub is_flag_set : Text → List Row → Bool
 is_flag_set id rows = option_map_or (λ w. bytes_eq w (codes "true")) (first_of id rows) false
 
-abbrev pub form_word : Form → Text
+abbrev pub form_word : PlanForm → Text
 form_word form.Text = codes "text"
 form_word form.Json = codes "json"
 form_word form.Dot = codes "dot"
@@ -78,7 +78,7 @@ form_word form.Promela = codes "promela"
 form_word form.Rust = codes "rust"
 form_word form.C = codes "c"
 
-abbrev pub HasForm : List Row → Form → Type 0
+abbrev pub HasForm : List Row → PlanForm → Type 0
 HasForm rows plan = HasWord (codes "as") rows (form_word plan)
 
 abbrev pub answer_word : AnswerForm → Text

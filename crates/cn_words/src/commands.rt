@@ -7,8 +7,7 @@ ghost use Rattle.cn_words.specs.declared.commands.CommandFault.TheVariants.{OutO
 
 use crate::lives::{LivesWords, is_flag_set, is_of_lives, lives, lives_table};
 use clap::ArgMatches;
-use cn_forms::Form;
-use cn_json::{AnswerForm, DocumentForm};
+use cn_form::{AnswerForm, DocumentForm, PlanForm};
 use std::alloc::{AllocError, Global};
 
 /// Where a table or a certificate is read from.
@@ -91,7 +90,7 @@ pub enum Command<'a> {
         /// The certificate.
         certificate: TextSource<'a>,
         /// The form of the plan.
-        form: Form,
+        form: PlanForm,
     },
     /// Runs the plan by a schedule.
     Agree {
@@ -229,16 +228,16 @@ fn certificate<'a>(words: &ArgMatches<'a>) -> Option<TextSource<'a>>
     Some(TextSource::of(word(words, "CERT")?))
 }
 
-fn form(words: &ArgMatches<'_>) -> Option<Form>
+fn form(words: &ArgMatches<'_>) -> Option<PlanForm>
     ensures { Finds (HasForm (rows_in words.now)) result }
 {
     match word(words, "as")? {
-        "text" => Some(Form::Text),
-        "json" => Some(Form::Json),
-        "dot" => Some(Form::Dot),
-        "promela" => Some(Form::Promela),
-        "rust" => Some(Form::Rust),
-        "c" => Some(Form::C),
+        "text" => Some(PlanForm::Text),
+        "json" => Some(PlanForm::Json),
+        "dot" => Some(PlanForm::Dot),
+        "promela" => Some(PlanForm::Promela),
+        "rust" => Some(PlanForm::Rust),
+        "c" => Some(PlanForm::C),
         _ => None,
     }
 }

@@ -5,7 +5,7 @@ ghost use Rattle.cn_words.specs.GivenCommands.{is_of_lives, rows_in};
 
 use crate::commands::{TextSource, answer_form, list, optional_number, table_word, word};
 use clap::ArgMatches;
-use cn_json::AnswerForm;
+use cn_form::AnswerForm;
 
 /// The words for a run of processes that crash and come back.
 #[derive(Clone, Copy)]

@@ -2,7 +2,7 @@
 use Rattle.std.proofs.Common.{inl, inr, ℕ, List, map, Option, Result, Ok, Err}
 use Rattle.cn_hall.specs.Seats.{SeatState}
 use Rattle.cn_hall.specs.declared.call.Go.{Go}
-use Rattle.cn_json.specs.declared.form.AnswerForm.{AnswerForm}
+use Rattle.cn_form.specs.declared.answer_form.AnswerForm.{AnswerForm}
 use Rattle.cn_app.specs.Arguments.Calls.{GivesCalls, calls_in}
 use Rattle.cn_app.specs.Arguments.Events.{GivesCapacity}
 use Rattle.cn_app.specs.Commands.Serve.{HasServeReport, IsServeReport}

@@ -1,7 +1,7 @@
 -- Facts about lists of calls hold for the same lists in a `Vec`.
 use Rattle.std.proofs.Common.{◌≡◌, ℕ, List, Result, subst}
 use Rattle.cn_log.specs.Opening.{Log, Opening}
-use Rattle.cn_json.specs.declared.form.AnswerForm.{AnswerForm}
+use Rattle.cn_form.specs.declared.answer_form.AnswerForm.{AnswerForm}
 use Rattle.cn_app.specs.Commands.Serve.{IsServeReport}
 use Rattle.cn_app.specs.declared.fault.AppFault.{AppFault}
 use Rattle.cn_app.specs.declared.report.Report.{Report}

@@ -1,7 +1,7 @@
 -- The report on the verdict of the check.
 use Rattle.std.proofs.Common.{◌≡◌, inl, inr, Result, Ok, Err, refl}
 use Rattle.cn_table.specs.TypeTable.{TypeTable}
-use Rattle.cn_json.specs.declared.form.AnswerForm.{AnswerForm}
+use Rattle.cn_form.specs.declared.answer_form.AnswerForm.{AnswerForm}
 use Rattle.cn_app.specs.Commands.Check.{HasVerdictReport, IsVerdictReport}
 use Rattle.cn_app.specs.Texts.Checked.{EndsCheck}
 use Rattle.cn_app.specs.declared.fault.AppFault.{AppFault}

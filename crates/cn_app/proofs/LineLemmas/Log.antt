@@ -1,5 +1,5 @@
 -- Events, entries and calls that ended, one at a time.
-use Rattle.std.proofs.Common.{◌≡◌, ◌∙◌, ℕ, zero, suc, ◌<◌, List, [], ◌∷◌, ◌++◌, ap, drop, length, take, slice_get, slice_index_or, Some, subst, sym}
+use Rattle.std.proofs.Common.{◌≡◌, ◌∙◌, ℕ, IfSome, zero, suc, ◌<◌, List, [], ◌∷◌, ◌++◌, ap, drop, length, take, slice_get, slice_index_or, Some, subst, sym}
 use Rattle.std.proofs.Math.Seq.{drop-cons}
 use Rattle.std.proofs.lemmas.List.{take-append-drop}
 use Rattle.std.proofs.lemmas.List.Elements.{All-append, All-map}
@@ -8,7 +8,6 @@ use Rattle.cn_table.specs.TypeTable.{TypeTable}
 use Rattle.cn_log.specs.CallEnds.{EndsWithResponse}
 use Rattle.cn_log.specs.declared.entry.Entry.{Entry}
 use Rattle.cn_log.specs.declared.event.CallEnd.{CallEnd}
-use Rattle.cn_log.specs.declared.event.CallEnd.TheVariants.{Answered, Full}
 use Rattle.cn_log.specs.declared.event.Event.{Event}
 use Rattle.cn_log.specs.declared.event.Event.TheVariants.{Invoke}
 use Rattle.cn_log.specs.declared.fault.EventFault.{EventFault}
@@ -18,7 +17,7 @@ use Rattle.cn_log.specs.Log.{Setting, World, IsEventList, MayAllCome, MayCome, a
 use Rattle.cn_lines.specs.Log.{HaveResponses}
 use Rattle.cn_json.specs.Log as json
 use Rattle.cn_json.specs.declared.log.AnswerOf.{AnswerOf}
-use Rattle.cn_app.specs.Answers.{answer_by, answer_of, answers_told}
+use Rattle.cn_app.specs.Answers.{answer_of, answers_told}
 
 module _ {R : Type 0} (L : Setting R) where
   may_come_from : (events : List Event) (w : World R) (i : ℕ) (e : Event) → MayAllCome L events w → slice_get events i ≡ Some e → MayCome L (after_events L (take i events) w) e
@@ -50,11 +49,7 @@ first_in_list L events k d s fault is less first =
 pub responses_more : (object other : TypeTable) (ends more : List (ℕ × CallEnd)) → other ≡ object → HaveResponses object ends → HaveResponses other more → HaveResponses object (ends ++ more)
 responses_more object other ends more same have here = All-append (λ (end : ℕ × CallEnd). EndsWithResponse object end.1) ends more have (subst (λ (o : TypeTable). HaveResponses o more) same here)
 
-has_response : (object : TypeTable) (end : CallEnd) → EndsWithResponse object end → json.HasResponse object (answer_by end)
-has_response object (Answered reply) has = has
-has_response object Full has = tt
-
 -- as JSON tells them, they have the same responses
 pub answers_have_responses : (object : TypeTable) (ends : List (ℕ × CallEnd)) → HaveResponses object ends → json.HaveResponses object (answers_told ends)
 answers_have_responses object ends have =
-    All-map (λ (a : AnswerOf). json.HasResponse object a.answer) answer_of ends (λ i d less. has_response object (slice_index_or ends i d).1 (have i d less))
+    All-map (λ (a : AnswerOf). IfSome a.end (EndsWithResponse object)) answer_of ends have

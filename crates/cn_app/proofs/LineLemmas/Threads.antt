@@ -1,18 +1,19 @@
 -- From what threads leave to its lines.
-use Rattle.std.proofs.Common.{◌≡◌, ◌<◌, ◌+◌, ℕ, List, [], ◌∷◌, Option, Some, None, Vec, Global, length, map, option_map, slice_get, slice_index_or, refl, sym, subst, ◌∙◌}
+use Rattle.std.proofs.Common.{◌≡◌, ◌<◌, ◌+◌, ℕ, IfSome, List, [], ◌∷◌, Option, Some, None, Vec, Global, length, map, option_map, slice_get, slice_index_or, refl, sym, subst, ◌∙◌}
 use Rattle.std.proofs.lemmas.List.Elements.{All-append, All-cons, All-head, All-map, All-nil, All-tail}
 use Rattle.std.proofs.lemmas.Option.{slice_get-get_or, slice_get-map}
 use Rattle.cn_table.proofs.Lists.{there_is}
 use Rattle.cn_table.specs.TypeTable.{TypeTable}
 use Rattle.cn_log.specs.Opening.{Log}
-use Rattle.cn_json.specs.Log.{HasResponse, HaveResponses}
-use Rattle.cn_json.specs.declared.log.Answer.TheVariants as told
+use Rattle.cn_log.specs.CallEnds.{EndsWithResponse}
+use Rattle.cn_log.specs.declared.event.CallEnd.TheVariants.{Answered}
+use Rattle.cn_hall.specs.declared.call.CallFault.{CallFault}
+use Rattle.cn_hall.specs.declared.call.CallFault.TheVariants.{LogFull, Stopped}
+use Rattle.cn_json.specs.Log.{HaveResponses}
 use Rattle.cn_json.specs.declared.log.AnswerOf.{AnswerOf}
 use Rattle.cn_log.specs.declared.event.Reply.{Reply}
 use Rattle.cn_lines.specs.Log.{RepliesHaveResponses}
-use Rattle.cn_app.specs.Lines.Threads.{EachHasResponses, call_answers, end_answers, history_answers, reply_answers}
-use Rattle.cn_app.specs.declared.threads.workers.End.{End}
-use Rattle.cn_app.specs.declared.threads.workers.End.TheVariants.{Full, Stopped, Whole}
+use Rattle.cn_app.specs.Lines.Threads.{EachHasResponses, call_answers, fault_answers, history_answers, reply_answers}
 use Rattle.cn_app.specs.Threads.Serving.{HasServed}
 use Rattle.cn_app.specs.declared.threads.workers.ProcessHistory.{ProcessHistory}
 
@@ -26,15 +27,15 @@ at_place {V} items calls p c there = by_option (slice_get calls p) refl (sym (sl
 
 -- what each process of the lists of calls made
 pub each_served : (core : Log) (calls : List (Vec ℕ Global)) (worked : List ProcessHistory)
-    → ((p : ℕ) (c : Vec ℕ Global) (w : ProcessHistory) → slice_get calls p ≡ Some c → slice_get worked p ≡ Some w → HasServed core p c.items w.replies.items w.end)
-    → (p : ℕ) (c : List ℕ) (w : ProcessHistory) → slice_get (map (λ list. list.items) calls) p ≡ Some c → slice_get worked p ≡ Some w → HasServed core p c w.replies.items w.end
+    → ((p : ℕ) (c : Vec ℕ Global) (w : ProcessHistory) → slice_get calls p ≡ Some c → slice_get worked p ≡ Some w → HasServed core p c.items w.replies.items w.fault)
+    → (p : ℕ) (c : List ℕ) (w : ProcessHistory) → slice_get (map (λ list. list.items) calls) p ≡ Some c → slice_get worked p ≡ Some w → HasServed core p c w.replies.items w.fault
 each_served core calls worked served p c w there done =
     let at = at_place (λ (list : Vec ℕ Global). list.items) calls p c there in
-    subst (λ (x : List ℕ). HasServed core p x w.replies.items w.end) at.2 (served p at.0 w at.1 done)
+    subst (λ (x : List ℕ). HasServed core p x w.replies.items w.fault) at.2 (served p at.0 w at.1 done)
 
 -- the responses of the replies are the object's
 pub each_has_responses : (object : TypeTable) (calls : List (Vec ℕ Global)) (core : Log) (worked : List ProcessHistory) → core.opening.object ≡ object → length worked ≡ length calls
-    → ((p : ℕ) (c : Vec ℕ Global) (w : ProcessHistory) → slice_get calls p ≡ Some c → slice_get worked p ≡ Some w → HasServed core p c.items w.replies.items w.end)
+    → ((p : ℕ) (c : Vec ℕ Global) (w : ProcessHistory) → slice_get calls p ≡ Some c → slice_get worked p ≡ Some w → HasServed core p c.items w.replies.items w.fault)
     → EachHasResponses object worked
 each_has_responses object calls core worked same many served p d less =
     let w : ProcessHistory = slice_index_or worked p d in
@@ -43,21 +44,22 @@ each_has_responses object calls core worked same many served p d less =
 
 -- as JSON tells them, calls have the responses of their replies
 module _ (object : TypeTable) where
-  replies_have : (p : ℕ) (replies : List Reply) → RepliesHaveResponses object replies → HaveResponses object (reply_answers p replies)
-  replies_have p replies have =
-      All-map (λ (a : AnswerOf). HasResponse object a.answer) (λ (reply : Reply). record { process = p; answer = told.Replied reply }) replies have
+  -- the response of a call, if there is one, is one of the object's
+  abbrev Has : AnswerOf → Type 0
+  Has a = IfSome a.end (EndsWithResponse object)
 
-  end_has : (p : ℕ) (end : End) → HaveResponses object (end_answers p end)
-  end_has p Whole = All-nil (λ (a : AnswerOf). HasResponse object a.answer)
-  end_has p Full = All-cons (λ (a : AnswerOf). HasResponse object a.answer) (record { process = p; answer = told.Full }) [] tt
-      (All-nil (λ (a : AnswerOf). HasResponse object a.answer))
-  end_has p Stopped = All-cons (λ (a : AnswerOf). HasResponse object a.answer) (record { process = p; answer = told.Stopped }) [] tt
-      (All-nil (λ (a : AnswerOf). HasResponse object a.answer))
+  replies_have : (p : ℕ) (replies : List Reply) → RepliesHaveResponses object replies → HaveResponses object (reply_answers p replies)
+  replies_have p replies have = All-map Has (λ (reply : Reply). record { process = p; end = Some (Answered reply) }) replies have
+
+  fault_has : (p : ℕ) (fault : Option CallFault) → HaveResponses object (fault_answers p fault)
+  fault_has p None = All-nil Has
+  fault_has p (Some LogFull) = All-cons Has _ [] tt (All-nil Has)
+  fault_has p (Some Stopped) = All-cons Has _ [] tt (All-nil Has)
 
   pub told_have_responses : (p : ℕ) (worked : List ProcessHistory) → EachHasResponses object worked → HaveResponses object (history_answers p worked)
-  told_have_responses p [] each = All-nil (λ (a : AnswerOf). HasResponse object a.answer)
+  told_have_responses p [] each = All-nil Has
   told_have_responses p (w ∷ ws) each =
-      All-append (λ (a : AnswerOf). HasResponse object a.answer) (call_answers p w.replies.items w.end) (history_answers (p + 1) ws)
-      (All-append (λ (a : AnswerOf). HasResponse object a.answer) (reply_answers p w.replies.items) (end_answers p w.end)
-      (replies_have p w.replies.items (All-head (λ (v : ProcessHistory). RepliesHaveResponses object v.replies.items) w ws each)) (end_has p w.end))
+      All-append Has (call_answers p w.replies.items w.fault) (history_answers (p + 1) ws)
+      (All-append Has (reply_answers p w.replies.items) (fault_answers p w.fault)
+      (replies_have p w.replies.items (All-head (λ (v : ProcessHistory). RepliesHaveResponses object v.replies.items) w ws each)) (fault_has p w.fault))
       (told_have_responses (p + 1) ws (All-tail (λ (v : ProcessHistory). RepliesHaveResponses object v.replies.items) w ws each))

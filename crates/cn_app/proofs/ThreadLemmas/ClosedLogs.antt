@@ -37,10 +37,10 @@ module _ (hall : HallId) (core : Log) (calls : List (Vec ℕ Global)) (before : 
   -- all seats have made their calls
   module _ (after : List SeatState) (worked : List ProcessHistory) (also : length after ≡ length before) (more : length worked ≡ length before) (all : HaveAllWorked calls before after worked) where
     worked_at : (p : ℕ) (c : Vec ℕ Global) (t : SeatState) (w : ProcessHistory) → slice_get calls p ≡ Some c → slice_get after p ≡ Some t → slice_get worked p ≡ Some w
-        → HasWorked c.items (seat_state hall p core) t w.replies.items w.end
+        → HasWorked c.items (seat_state hall p core) t w.replies.items w.fault
     worked_at p c t w got at_t at_w = all p c (seat_state hall p core) t w got (opened p (slice_get_within calls p c got)) at_t at_w
 
-    worked_there : (p : ℕ) (t : SeatState) → slice_get after p ≡ Some t → (c : Vec ℕ Global) × (w : ProcessHistory) × HasWorked c.items (seat_state hall p core) t w.replies.items w.end
+    worked_there : (p : ℕ) (t : SeatState) → slice_get after p ≡ Some t → (c : Vec ℕ Global) × (w : ProcessHistory) × HasWorked c.items (seat_state hall p core) t w.replies.items w.fault
     worked_there p t at =
         let less = slice_get_within after p t at in
         let c = there_is calls p (omega (arith, less, also, count)) in
@@ -60,11 +60,11 @@ module _ (hall : HallId) (core : Log) (calls : List (Vec ℕ Global)) (before : 
 
       pub serve_all : All (λ (t : SeatState). BeginsWith (batches (setting closed) closed.schedule) (slots_seen t)) after
           → All (λ (t : SeatState). BeginsWith (replies_in closed t.process) (own t)) after
-          → (p : ℕ) (c : Vec ℕ Global) (w : ProcessHistory) → slice_get calls p ≡ Some c → slice_get worked p ≡ Some w → HasServed closed p c.items w.replies.items w.end
+          → (p : ℕ) (c : Vec ℕ Global) (w : ProcessHistory) → slice_get calls p ≡ Some c → slice_get worked p ≡ Some w → HasServed closed p c.items w.replies.items w.fault
       serve_all begins answers p c w got at =
           let t = there_is after p (omega (arith, slice_get_within worked p w at, also, more)) in
           let h = worked_at p c t.0 w got t.1 at in
-          has_served_at closed c.items (seat_state hall p core) t.0 w.replies.items w.end h (at_place (λ (u : SeatState). Carries u.process u.core closed) after carried p t.0 t.1) p h.same.1
+          has_served_at closed c.items (seat_state hall p core) t.0 w.replies.items w.fault h (at_place (λ (u : SeatState). Carries u.process u.core closed) after carried p t.0 t.1) p h.same.1
           (at_place (λ (u : SeatState). BeginsWith (batches (setting closed) closed.schedule) (slots_seen u)) after begins p t.0 t.1)
           (at_place (λ (u : SeatState). BeginsWith (replies_in closed u.process) (own u)) after answers p t.0 t.1)
 

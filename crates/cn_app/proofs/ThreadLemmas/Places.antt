@@ -29,20 +29,20 @@ module _ (calls : List (Vec ℕ Global)) where
     room_last n e c got = room n c w got (ap (λ l. slice_get l n) is ∙ ap (slice_get (rooms ++ w ∷ [])) e ∙ get_push_new rooms w)
 
   module _ (before after : List SeatState) (worked : List ProcessHistory) (s t : SeatState) (w : ProcessHistory) (count : length after ≡ length before) (also : length worked ≡ length before) where
-    pub one_more_worked : HaveAllWorked calls before after worked → ((c : Vec ℕ Global) → slice_get calls (length before) ≡ Some c → HasWorked c.items s t w.replies.items w.end)
+    pub one_more_worked : HaveAllWorked calls before after worked → ((c : Vec ℕ Global) → slice_get calls (length before) ≡ Some c → HasWorked c.items s t w.replies.items w.fault)
         → HaveAllWorked calls (before ++ s ∷ []) (after ++ t ∷ []) (worked ++ w ∷ [])
     one_more_worked all last p c x y z got at_x at_y at_z = by_place (get_push_cases before s p x at_x) (get_push_cases after t p y at_y) (get_push_cases worked w p z at_z)
       where
         by_place : (slice_get before p ≡ Some x) ⊎ ((p ≡ length before) × (s ≡ x)) → (slice_get after p ≡ Some y) ⊎ ((p ≡ length after) × (t ≡ y))
             → (slice_get worked p ≡ Some z) ⊎ ((p ≡ length worked) × (w ≡ z))
-            → HasWorked c.items x y z.replies.items z.end
+            → HasWorked c.items x y z.replies.items z.fault
         by_place (inl a) (inl b) (inl d) = all p c x y z got a b d
         by_place (inl a) (inr b) d = absurd (omega (arith, slice_get_within before p x a, b.0, count))
         by_place (inl a) b (inr d) = absurd (omega (arith, slice_get_within before p x a, d.0, also))
         by_place (inr a) (inl b) d = absurd (omega (arith, slice_get_within after p y b, a.0, count))
         by_place (inr a) b (inl d) = absurd (omega (arith, slice_get_within worked p z d, a.0, also))
         by_place (inr a) (inr b) (inr d) =
-            subst (λ (u : SeatState × SeatState × ProcessHistory). HasWorked c.items u.0 u.1 u.2.replies.items u.2.end) (λ i. (a.1 i, b.1 i, d.1 i)) (last c (ap (slice_get calls) (sym a.0) ∙ got))
+            subst (λ (u : SeatState × SeatState × ProcessHistory). HasWorked c.items u.0 u.1 u.2.replies.items u.2.fault) (λ i. (a.1 i, b.1 i, d.1 i)) (last c (ap (slice_get calls) (sym a.0) ∙ got))
 
   -- and room for the replies to one more list of calls
   pub room_pushed : (rooms : List ProcessHistory) (w : ProcessHistory) (d : Vec ℕ Global) → HaveRoom calls rooms → slice_get calls (length rooms) ≡ Some d → HasRoom d.items w
@@ -58,7 +58,7 @@ module _ (calls : List (Vec ℕ Global)) where
 module _ {G : Type 0} (asks : G → SeatState → ℕ → G → Type 0) (says : G → Go) (before after : List SeatState) (gates : List G) (worked : List ProcessHistory) (s t : SeatState)
     (g : G) (w : ProcessHistory)
     (count : length after ≡ length before) (also : length gates ≡ length before) (more : length worked ≡ length before) where
-  pub one_more_asked : AllGatesWereAsked asks says before gates after worked → GateWasAsked asks says s g t w.end
+  pub one_more_asked : AllGatesWereAsked asks says before gates after worked → GateWasAsked asks says s g t w.fault
       → AllGatesWereAsked asks says (before ++ s ∷ []) (gates ++ g ∷ []) (after ++ t ∷ []) (worked ++ w ∷ [])
   one_more_asked all last p x y z v at_x at_z at_y at_v = by_place (get_push_cases before s p x at_x) (get_push_cases after t p y at_y) (get_push_cases gates g p z at_z)
       (get_push_cases worked w p v at_v)
@@ -66,7 +66,7 @@ module _ {G : Type 0} (asks : G → SeatState → ℕ → G → Type 0) (says : 
       by_place : (slice_get before p ≡ Some x) ⊎ ((p ≡ length before) × (s ≡ x)) → (slice_get after p ≡ Some y) ⊎ ((p ≡ length after) × (t ≡ y))
           → (slice_get gates p ≡ Some z) ⊎ ((p ≡ length gates) × (g ≡ z))
           → (slice_get worked p ≡ Some v) ⊎ ((p ≡ length worked) × (w ≡ v))
-          → GateWasAsked asks says x z y v.end
+          → GateWasAsked asks says x z y v.fault
       by_place (inl a) (inl b) (inl d) (inl e) = all p x y z v a d b e
       by_place (inl a) (inr b) d e = absurd (omega (arith, slice_get_within before p x a, b.0, count))
       by_place (inl a) b (inr d) e = absurd (omega (arith, slice_get_within before p x a, d.0, also))
@@ -75,4 +75,4 @@ module _ {G : Type 0} (asks : G → SeatState → ℕ → G → Type 0) (says : 
       by_place (inr a) b (inl d) e = absurd (omega (arith, slice_get_within gates p z d, a.0, also))
       by_place (inr a) b d (inl e) = absurd (omega (arith, slice_get_within worked p v e, a.0, more))
       by_place (inr a) (inr b) (inr d) (inr e) =
-          subst (λ (u : SeatState × SeatState × G × ProcessHistory). GateWasAsked asks says u.0 u.2 u.1 u.3.end) (λ i. (a.1 i, b.1 i, d.1 i, e.1 i)) last
+          subst (λ (u : SeatState × SeatState × G × ProcessHistory). GateWasAsked asks says u.0 u.2 u.1 u.3.fault) (λ i. (a.1 i, b.1 i, d.1 i, e.1 i)) last

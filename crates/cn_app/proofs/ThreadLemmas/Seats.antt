@@ -1,5 +1,5 @@
 -- Seats that make calls.
-use Rattle.std.proofs.Common.{◌≡◌, ◌⊎◌, inl, inr, ℕ, ◌+◌, ◌<◌, List, [], ◌∷◌, ◌++◌, length, take, drop, Err, refl, sym, ap, ◌∙◌, subst, arith}
+use Rattle.std.proofs.Common.{◌≡◌, ◌⊎◌, inl, inr, ℕ, ◌+◌, ◌<◌, List, [], ◌∷◌, ◌++◌, length, take, drop, Err, Some, refl, sym, ap, ◌∙◌, subst, arith}
 use Rattle.std.proofs.lemmas.List.{length-take-le, take-append-drop}
 use Rattle.cn_log.specs.Callers.{BeginsWith}
 use Rattle.cn_hall.specs.Calls.{CallFails, MakesCall, IsSameSeat, go_after}
@@ -8,7 +8,7 @@ use Rattle.cn_hall.specs.declared.call.CallFault.{CallFault}
 use Rattle.cn_hall.specs.declared.call.CallFault.TheVariants.{LogFull, Stopped}
 use Rattle.cn_log.specs.declared.event.Reply.{Reply}
 use Rattle.cn_app.specs.Threads.Serving.{operations_called}
-use Rattle.cn_app.specs.Threads.Workers.{EndsAt, end_by, go_at}
+use Rattle.cn_app.specs.Threads.Workers.{EndsAt, go_at}
 use Rattle.cn_app.proofs.ThreadLemmas.CallLists.{invoked_called}
 
 -- the calls made are the first i of the list
@@ -19,7 +19,7 @@ begins_taken : (calls : List ℕ) (s : SeatState) (i : ℕ) → HasMade calls s 
 begins_taken calls s i made = (drop i calls, sym (take-append-drop i calls) ∙ ap (λ l. l ++ drop i calls) (sym made))
 
 -- a call without a reply ends the calls by what the gate said
-pub go_ended : (fault : CallFault) → go_after (Err fault) ≡ go_at (end_by fault)
+pub go_ended : (fault : CallFault) → go_after (Err fault) ≡ go_at (Some fault)
 go_ended LogFull = refl
 go_ended Stopped = refl
 
@@ -48,6 +48,6 @@ module _ (calls : List ℕ) (i operation : ℕ) (more : take (i + 1) calls ≡ t
   begins_left fault h = begins_once (made_or_not operation s t fault h)
 
   -- and they ended so
-  pub ends_left : i < length calls → (replies : List Reply) → length replies ≡ i → (fault : CallFault) → CallFails operation fault s t → EndsAt calls t replies (end_by fault)
+  pub ends_left : i < length calls → (replies : List Reply) → length replies ≡ i → (fault : CallFault) → CallFails operation fault s t → EndsAt calls t replies (Some fault)
   ends_left less replies count LogFull h = (h.0.1, omega (arith, less, count))
   ends_left less replies count Stopped h = ap length (one_more h.0) ∙ length-take-le (i + 1) calls (omega (arith, less)) ∙ ap (λ n. n + 1) (sym count)

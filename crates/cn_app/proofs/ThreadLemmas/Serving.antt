@@ -7,11 +7,11 @@ use Rattle.cn_log.specs.declared.batch.Batch.{Batch}
 use Rattle.cn_hall.specs.Answers.{own, replies_from}
 use Rattle.cn_hall.specs.Rule.{Carries}
 use Rattle.cn_hall.specs.Seats.{SeatState, slots_seen}
+use Rattle.cn_hall.specs.declared.call.CallFault.{CallFault}
+use Rattle.cn_hall.specs.declared.call.CallFault.TheVariants.{LogFull, Stopped}
 use Rattle.cn_log.specs.declared.event.Reply.{Reply}
 use Rattle.cn_app.specs.Threads.Serving.{EndsIn, HasServed, operations_called, replies_in}
 use Rattle.cn_app.specs.Threads.Workers.{EndsAt, HasWorked}
-use Rattle.cn_app.specs.declared.threads.workers.End.{End}
-use Rattle.cn_app.specs.declared.threads.workers.End.TheVariants.{Whole, Full, Stopped}
 use Rattle.cn_app.proofs.ThreadLemmas.CallLists.{invoked_carried}
 
 -- at most as many slots are fixed as there are
@@ -35,7 +35,7 @@ whole_front {A} list front begins h = by_rest begins.0 begins.1
     by_rest (x ∷ rest) e = absurd (omega (arith, h, ap length e, length-append front (x ∷ rest)))
 
 -- what a seat leaves holds in a log that carries its core
-module _ (core : Log) (calls : List ℕ) (s t : SeatState) (replies : List Reply) (end : End) (worked : HasWorked calls s t replies end) (carried : Carries t.process t.core core) where
+module _ (core : Log) (calls : List ℕ) (s t : SeatState) (replies : List Reply) (fault : Option CallFault) (worked : HasWorked calls s t replies fault) (carried : Carries t.process t.core core) where
   same_calls : operations_called t.process core.schedule ≡ operations_called t.process t.core.schedule
   same_calls = invoked_carried t.process t.core core carried
 
@@ -43,23 +43,23 @@ module _ (core : Log) (calls : List ℕ) (s t : SeatState) (replies : List Reply
   saw_all : BeginsWith (batches (setting core) core.schedule) (slots_seen t) → length (slots_seen t) ≡ t.core.opening.capacity → batches (setting core) core.schedule ≡ slots_seen t
   saw_all begins full = whole_front (batches (setting core) core.schedule) (slots_seen t) begins (omega (arith, batches_within core, full, ap (λ (o : Opening). o.capacity) carried.0))
 
-  ends_in : BeginsWith (batches (setting core) core.schedule) (slots_seen t) → (e : End) → EndsAt calls t replies e → EndsIn core t.process calls replies e
-  ends_in begins Whole h = (same_calls ∙ h.0, h.1)
-  ends_in begins Full h =
+  ends_in : BeginsWith (batches (setting core) core.schedule) (slots_seen t) → (e : Option CallFault) → EndsAt calls t replies e → EndsIn core t.process calls replies e
+  ends_in begins None h = (same_calls ∙ h.0, h.1)
+  ends_in begins (Some LogFull) h =
       let all = saw_all begins h.0 in (
         ap length all ∙ h.0 ∙ sym (ap (λ (o : Opening). o.capacity) carried.0),
         sym worked.replied ∙ (λ i. replies_from (setting_of (sym carried.0 i)) t.process [] (sym all i)),
         h.1,
       )
-  ends_in begins Stopped h = ap length same_calls ∙ h
+  ends_in begins (Some Stopped) h = ap length same_calls ∙ h
 
-  has_served : BeginsWith (batches (setting core) core.schedule) (slots_seen t) → BeginsWith (replies_in core t.process) (own t) → HasServed core t.process calls replies end
+  has_served : BeginsWith (batches (setting core) core.schedule) (slots_seen t) → BeginsWith (replies_in core t.process) (own t) → HasServed core t.process calls replies fault
   has_served begins answers = record {
     made = (worked.made.0, worked.made.1 ∙ ap (λ l. l ++ worked.made.0) (sym same_calls));
     replied = subst (λ (l : List Reply). BeginsWith (replies_in core t.process) l) worked.replied answers;
     range = subst (λ (o : Opening). All (λ (r : Reply). r.response.0 < length o.object.responses) replies) (sym carried.0) worked.range;
-    ended = ends_in begins end worked.ended;
+    ended = ends_in begins fault worked.ended;
   }
 
-  pub has_served_at : (p : ℕ) → t.process ≡ p → BeginsWith (batches (setting core) core.schedule) (slots_seen t) → BeginsWith (replies_in core t.process) (own t) → HasServed core p calls replies end
-  has_served_at p is begins answers = subst (λ q. HasServed core q calls replies end) is (has_served begins answers)
+  pub has_served_at : (p : ℕ) → t.process ≡ p → BeginsWith (batches (setting core) core.schedule) (slots_seen t) → BeginsWith (replies_in core t.process) (own t) → HasServed core p calls replies fault
+  has_served_at p is begins answers = subst (λ q. HasServed core q calls replies fault) is (has_served begins answers)

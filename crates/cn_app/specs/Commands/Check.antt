@@ -6,8 +6,8 @@ use Rattle.serde_json.specs.Written.{compact_text}
 use Rattle.cn_table.specs.TypeTable.{TypeTable}
 use Rattle.cn_choice.specs.Discerning.{IsNumberUpTo}
 use Rattle.cn_json.specs.Verdict.{accepted_data, unread_data, verdict_data}
-use Rattle.cn_json.specs.declared.form.AnswerForm.{AnswerForm}
-use Rattle.cn_json.specs.declared.form.AnswerForm.TheVariants as form
+use Rattle.cn_form.specs.declared.answer_form.AnswerForm.{AnswerForm}
+use Rattle.cn_form.specs.declared.answer_form.AnswerForm.TheVariants as form
 use Rattle.cn_app.specs.Forms.{if_json}
 use Rattle.cn_app.specs.Steps.{Then}
 use Rattle.cn_app.specs.Texts.Checked.{GivesCheck, IsChecked}

@@ -15,8 +15,8 @@ use Rattle.cn_search.specs.declared.fault.FindFault.{FindFault}
 use Rattle.cn_recover.specs.Recording.{HasRecoverableNumber, IsRecoverableNumberUpTo}
 use Rattle.cn_documents.specs.Documents.{numbers_head, numbers_row}
 use Rattle.cn_json.specs.Numbers.{classification_data}
-use Rattle.cn_json.specs.declared.form.DocumentForm.{DocumentForm}
-use Rattle.cn_json.specs.declared.form.DocumentForm.TheVariants as form
+use Rattle.cn_form.specs.declared.answer_form.DocumentForm.{DocumentForm}
+use Rattle.cn_form.specs.declared.answer_form.DocumentForm.TheVariants as form
 use Rattle.cn_json.specs.declared.numbers.Classification.{Classification}
 use Rattle.cn_forms.specs.declared.numbers.TypeNumber.{TypeNumber}
 use Rattle.cn_forms.specs.declared.numbers.TypeNumber.TheVariants.{Exact, UpTo}

@@ -4,8 +4,8 @@ use Rattle.std.specs.Prelude.{Option, Some, None, IsSomeAnd, Result, Ok, Err, Ma
 use Rattle.std.specs.Prelude.{string_bytes}
 use Rattle.std.specs.Option.{option_map_or}
 use Rattle.std.specs.Str.{bytes_eq}
-use Rattle.cn_json.specs.declared.form.DocumentForm.{DocumentForm}
-use Rattle.cn_json.specs.declared.form.DocumentForm.TheVariants as form
+use Rattle.cn_form.specs.declared.answer_form.DocumentForm.{DocumentForm}
+use Rattle.cn_form.specs.declared.answer_form.DocumentForm.TheVariants as form
 use Rattle.cn_app.specs.Commands.Classify.{HasClassReport, IsHeadReport, given_limit_fault}
 use Rattle.cn_app.specs.FaultText.{is_of_every_table}
 use Rattle.cn_app.specs.Streams.Reading.{HasRead, IsUnread}

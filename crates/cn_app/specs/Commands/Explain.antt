@@ -7,10 +7,10 @@ use Rattle.cn_forms.specs.Reasons.{explanation_text}
 use Rattle.cn_forms.specs.declared.explained.value.Explanation.{Explanation}
 use Rattle.cn_forms.specs.declared.numbers.TypeNumber.TheVariants.{UpTo}
 use Rattle.cn_json.specs.Explanation.{explanation_data}
-use Rattle.cn_json.specs.Forms.{document_form}
-use Rattle.cn_json.specs.declared.form.AnswerForm.{AnswerForm}
-use Rattle.cn_json.specs.declared.form.DocumentForm.{DocumentForm}
-use Rattle.cn_json.specs.declared.form.DocumentForm.TheVariants as form
+use Rattle.cn_form.specs.Forms.{document_form}
+use Rattle.cn_form.specs.declared.answer_form.AnswerForm.{AnswerForm}
+use Rattle.cn_form.specs.declared.answer_form.DocumentForm.{DocumentForm}
+use Rattle.cn_form.specs.declared.answer_form.DocumentForm.TheVariants as form
 use Rattle.cn_app.specs.Commands.Check.{HasItsNumber}
 use Rattle.cn_app.specs.Steps.{Then}
 use Rattle.cn_app.specs.Texts.Checked.{GivesChecked}

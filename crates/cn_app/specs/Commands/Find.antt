@@ -3,8 +3,8 @@ use Rattle.std.specs.Prelude.{ℕ, length, Option, ◌≡◌, ◌⊎◌, List, �
 use Rattle.std.specs.Prelude.{Result, Ok, Err, string_bytes}
 use Rattle.cn_table.specs.TypeTable.{TypeTable}
 use Rattle.cn_search.specs.Faults.{find_fault}
-use Rattle.cn_search.specs.Evidence.{IsFindingFor}
-use Rattle.cn_search.specs.Finding.{Finding}
+use Rattle.cn_finding.specs.Evidence.{IsFindingFor}
+use Rattle.cn_finding.specs.Finding.{Finding}
 use Rattle.cn_search.specs.GreatestLimit.{IsGreatestLimit}
 use Rattle.cn_search.specs.declared.fault.FindFault.{FindFault}
 use Rattle.cn_cert.specs.Certificate.{Certificate, certificate_of}

@@ -8,8 +8,8 @@ use Rattle.cn_table.specs.declared.fault.TableFault.{TableFault}
 use Rattle.cn_forms.specs.Grid.{IsGrid}
 use Rattle.cn_flaws.specs.Flaws.{Flaw, flaws_at}
 use Rattle.cn_json.specs.Flaws.{flaws_data}
-use Rattle.cn_json.specs.declared.form.AnswerForm.{AnswerForm}
-use Rattle.cn_json.specs.declared.form.AnswerForm.TheVariants as form
+use Rattle.cn_form.specs.declared.answer_form.AnswerForm.{AnswerForm}
+use Rattle.cn_form.specs.declared.answer_form.AnswerForm.TheVariants as form
 use Rattle.cn_app.specs.FaultText.{plain_of}
 use Rattle.cn_app.specs.Forms.{if_json}
 use Rattle.cn_app.specs.Steps.{Then}

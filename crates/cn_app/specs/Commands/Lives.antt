@@ -7,18 +7,18 @@ use Rattle.serde_json.specs.Written.{compact_text}
 use Rattle.cn_table.specs.TypeTable.{TypeTable}
 use Rattle.cn_agree.specs.Schedules.{schedule_fault}
 use Rattle.cn_proto.specs.Plan.{processes_of}
-use Rattle.cn_search.specs.declared.limits.TheConstants.{GREATEST_LIMIT}
+use Rattle.cn_finding.specs.declared.limits.TheConstants.{GREATEST_LIMIT}
 use Rattle.cn_recover.specs.Recording.{IsRecoverableNumberUpTo}
-use Rattle.cn_lives.specs.Consensus.{IsRecoverableConsensus}
 use Rattle.cn_lives.specs.Courses.{records_of}
 use Rattle.cn_lives.specs.Plans.{IsFirstPlan, RecordingPlan}
-use Rattle.cn_lives.specs.Schedules.{decisions_after, execution_of, named}
+use Rattle.cn_lives.specs.Runs.{decisions_after}
+use Rattle.cn_lives.specs.Schedules.{named}
 use Rattle.cn_lives.specs.declared.schedule.Event.{Event}
 use Rattle.cn_life_lines.specs.Steps.{life_step_lines}
 use Rattle.cn_lines.specs.Decisions.{decision_lines}
 use Rattle.cn_json.specs.Course.{decisions_data}
 use Rattle.cn_json.specs.Lives.{life_course_data}
-use Rattle.cn_json.specs.declared.form.AnswerForm.{AnswerForm}
+use Rattle.cn_form.specs.declared.answer_form.AnswerForm.{AnswerForm}
 use Rattle.cn_app.specs.Arguments.Lives.{CanBe, GivesLifeLists, GivesProcesses}
 use Rattle.cn_app.specs.FaultText.{plain_of}
 use Rattle.cn_app.specs.Forms.{if_json}
@@ -80,11 +80,10 @@ lives_text p inputs schedule steps form =
     if_json form (compact_text (lives_data p inputs schedule steps) ++ codes "\n")
     (lives_lines p inputs schedule steps)
 
--- the inputs and the schedule have no fault, the run is consensus, and this is its text
+-- the inputs and the schedule have no fault, and this is the text of the run
 pub record IsLived (p : RecordingPlan) (inputs : List ℕ) (schedule : List Event) (steps : Bool)
     (form : AnswerForm) (text : List ℕ) : Type 0 where
   pub run : schedule_fault (processes_of p.plan) inputs (named schedule) ≡ None
-  pub consensus : IsRecoverableConsensus p inputs (execution_of schedule)
   pub written : text ≡ lives_text p inputs schedule steps form
 
 -- the result of running a plan: the text of the run, or the first fault of the inputs and the

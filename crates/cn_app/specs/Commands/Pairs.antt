@@ -9,8 +9,8 @@ use Rattle.cn_pairs.specs.declared.pairs.Pairs.{Pairs}
 use Rattle.serde_json.specs.Written.{compact_text}
 use Rattle.cn_documents.specs.Documents.{pairs_markdown, pairs_text}
 use Rattle.cn_json.specs.Pairs.{pairs_data}
-use Rattle.cn_json.specs.declared.form.DocumentForm.{DocumentForm}
-use Rattle.cn_json.specs.declared.form.DocumentForm.TheVariants as form
+use Rattle.cn_form.specs.declared.answer_form.DocumentForm.{DocumentForm}
+use Rattle.cn_form.specs.declared.answer_form.DocumentForm.TheVariants as form
 use Rattle.cn_app.specs.Steps.{Then}
 use Rattle.cn_app.specs.Texts.Contents.{GivesTable}
 use Rattle.cn_app.specs.declared.report.Outcome.TheVariants.{Whole}

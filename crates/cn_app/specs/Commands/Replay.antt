@@ -11,7 +11,7 @@ use Rattle.cn_log.specs.declared.event.Event.{Event}
 use Rattle.cn_log.specs.declared.fault.EventFault.{EventFault}
 use Rattle.cn_lines.specs.Log.{answer_lines, entry_lines}
 use Rattle.cn_json.specs.Log.{log_data}
-use Rattle.cn_json.specs.declared.form.AnswerForm.{AnswerForm}
+use Rattle.cn_form.specs.declared.answer_form.AnswerForm.{AnswerForm}
 use Rattle.cn_app.specs.Answers.{answers_told, has_full, ends_after}
 use Rattle.cn_app.specs.Arguments.Events.{GivesCapacity, GivesEvents, capacity_of, events_in}
 use Rattle.cn_app.specs.Arguments.Events.{events_of, words_of}

@@ -1,14 +1,14 @@
 -- What `serve` writes, by the opening of the log and the calls, by the form, and by what the threads
 -- did.
-use Rattle.std.specs.Prelude.{Bool, true, false, List, ℕ, ◌≡◌, length, slice_get, Some, ◌⊎◌, map}
-use Rattle.std.specs.Prelude.{Result, Ok, Err, IsSome, string_bytes}
+use Rattle.std.specs.Prelude.{true, false, List, ℕ, ◌≡◌, length, slice_get, Some, ◌⊎◌, map}
+use Rattle.std.specs.Prelude.{Result, Ok, Err, IsSome, is_some, string_bytes}
 use Rattle.std.specs.List.{list_any}
 use Rattle.cn_log.specs.Opening.{Log, Opening, setting}
 use Rattle.cn_log.specs.Bypass.{IsBypassBounded}
 use Rattle.cn_log.specs.Linearized.{IsLinearized}
 use Rattle.cn_log.specs.Log.{IsEventList}
 use Rattle.cn_log.specs.OwnSteps.{IsWaitFree}
-use Rattle.cn_json.specs.declared.form.AnswerForm.{AnswerForm}
+use Rattle.cn_form.specs.declared.answer_form.AnswerForm.{AnswerForm}
 use Rattle.cn_app.specs.Arguments.Calls.{GivesCalls, calls_fit, calls_in, calls_of}
 use Rattle.cn_app.specs.Arguments.Events.{GivesCapacity, capacity_of}
 use Rattle.cn_app.specs.Outcomes.{cut_if}
@@ -19,23 +19,15 @@ use Rattle.cn_app.specs.declared.readers.opening.OpeningArguments.{OpeningArgume
 use Rattle.cn_app.specs.declared.report.Report.{Report}
 use Rattle.cn_app.specs.Threads.Serving.{HasServed}
 use Rattle.cn_app.specs.Lines.Threads.{service_text}
-use Rattle.cn_app.specs.declared.threads.workers.End.{End}
-use Rattle.cn_app.specs.declared.threads.workers.End.TheVariants.{Full, Stopped, Whole}
 use Rattle.cn_app.specs.declared.report.Outcome.{Outcome}
 use Rattle.cn_app.specs.declared.threads.workers.ProcessHistory.{ProcessHistory}
 use Rattle.cn_app.specs.declared.fault.AppFault.{AppFault}
 use Rattle.cn_app.specs.declared.fault.AppFault.TheVariants.{Argument, OutOfMemory, Thread}
 use Rattle.cn_app.specs.declared.fault.Argument.TheVariants.{Calls}
 
--- some call has no reply
-abbrev pub is_cut : End → Bool
-is_cut Whole = false
-is_cut Full = true
-is_cut Stopped = true
-
 -- cut where some call has no reply
 abbrev pub outcome_of_calls : List ProcessHistory → Outcome
-outcome_of_calls worked = cut_if (list_any (λ w. is_cut w.end) worked)
+outcome_of_calls worked = cut_if (list_any (λ w. is_some w.fault) worked)
 
 -- the calls are ones of the plan's processes and the object's operations; there is one log of this
 -- opening, linearized, with no call passed by for long and each over within so many steps of its
@@ -55,7 +47,7 @@ pub record IsServedByThreads (gates : Log → List ProcessHistory → Type 0) (t
   pub worked : List ProcessHistory
   pub each : length worked ≡ length calls
   pub served : (p : ℕ) (c : List ℕ) (w : ProcessHistory) → slice_get calls p ≡ Some c
-      → slice_get worked p ≡ Some w → HasServed log p c w.replies.items w.end
+      → slice_get worked p ≡ Some w → HasServed log p c w.replies.items w.fault
   pub gated : gates log worked
   pub written : text ≡ service_text told o.object o.start worked log
   pub ended : outcome ≡ outcome_of_calls worked

@@ -2,7 +2,7 @@
 use Rattle.std.specs.Prelude.{◌≡◌, Result, Ok, Err, string_bytes}
 use Rattle.cn_proto.specs.Plan.{Plan}
 use Rattle.cn_forms.specs.PlanForms.{form_text}
-use Rattle.cn_forms.specs.declared.plan_forms.Form.{Form}
+use Rattle.cn_form.specs.declared.plan_form.PlanForm.{PlanForm}
 use Rattle.cn_app.specs.Steps.{Then}
 use Rattle.cn_app.specs.Texts.Checked.{GivesChecked}
 use Rattle.cn_app.specs.Texts.Plans.{GivesPlan}
@@ -14,16 +14,16 @@ use Rattle.cn_app.specs.declared.fault.AppFault.{AppFault}
 use Rattle.cn_app.specs.declared.fault.AppFault.TheVariants.{OutOfMemory}
 
 -- the result of writing a plan in a form, unless memory ran out
-abbrev pub IsFormReport : Plan → Form → Result Report AppFault → Type 0
+abbrev pub IsFormReport : Plan → PlanForm → Result Report AppFault → Type 0
 IsFormReport plan form (Ok report) =
     (string_bytes report.text ≡ form_text form plan) × (report.outcome ≡ Whole)
 IsFormReport plan form (Err e) = e ≡ OutOfMemory
 
 -- the same for the plan of the certificate's witness
-abbrev pub IsShowReport : Checked → Form → Result Report AppFault → Type 0
+abbrev pub IsShowReport : Checked → PlanForm → Result Report AppFault → Type 0
 IsShowReport checked form r = Then (GivesPlan checked) (λ plan. IsFormReport plan form) r
 
 -- the result of `show` for two texts
-abbrev pub HasShowReport : {R C : Type 0} → Text R → Text C → Form → Result Report AppFault → Type 0
+abbrev pub HasShowReport : {R C : Type 0} → Text R → Text C → PlanForm → Result Report AppFault → Type 0
 HasShowReport table certificate form r =
     Then (GivesChecked table certificate) (λ checked. IsShowReport checked form) r

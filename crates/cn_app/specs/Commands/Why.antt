@@ -12,7 +12,7 @@ use Rattle.cn_cert.specs.Certificate.{Certificate}
 use Rattle.cn_forms.specs.Explanation.{Explains}
 use Rattle.cn_forms.specs.declared.explained.value.Explanation.{Explanation}
 use Rattle.cn_forms.specs.declared.numbers.TypeNumber.TheVariants.{Exact}
-use Rattle.cn_json.specs.declared.form.DocumentForm.{DocumentForm}
+use Rattle.cn_form.specs.declared.answer_form.DocumentForm.{DocumentForm}
 use Rattle.cn_app.specs.Commands.Explain.{explanation_in, IsExplainReport}
 use Rattle.cn_app.specs.Commands.Find.{GivesFound, IsFoundCertificate, IsLimitFor}
 use Rattle.cn_app.specs.Steps.{Then}

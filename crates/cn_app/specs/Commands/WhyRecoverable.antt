@@ -7,8 +7,8 @@ use Rattle.cn_recover_reasons.specs.Markdown.{recoverable_markdown}
 use Rattle.cn_recover_reasons.specs.Text.{recoverable_text}
 use Rattle.cn_recover_reasons.specs.declared.value.RecoverableExplanation.{RecoverableExplanation}
 use Rattle.cn_json.specs.Recoverable.{recoverable_data}
-use Rattle.cn_json.specs.declared.form.DocumentForm.{DocumentForm}
-use Rattle.cn_json.specs.declared.form.DocumentForm.TheVariants as form
+use Rattle.cn_form.specs.declared.answer_form.DocumentForm.{DocumentForm}
+use Rattle.cn_form.specs.declared.answer_form.DocumentForm.TheVariants as form
 use Rattle.cn_app.specs.Steps.{Then}
 use Rattle.cn_app.specs.Texts.Contents.{GivesTable}
 use Rattle.cn_app.specs.declared.report.Outcome.TheVariants.{Whole}

@@ -1,6 +1,6 @@
 -- What the thread of a process starts with, and what it hands back.
 use Rattle.std.specs.Prelude.{◌≡◌, ℕ, ◌<◌, List, [], All, length, ◌≤◌, vec_capacity, ◌+◌, Some, Vec}
-use Rattle.std.specs.Prelude.{slice_get, Result, Ok, Err}
+use Rattle.std.specs.Prelude.{None, Option, slice_get, Result, Ok, Err}
 use Rattle.std.specs.Global.{Global}
 use Rattle.cn_proto.specs.Plan.{processes_of}
 use Rattle.cn_log.specs.Callers.{BeginsWith}
@@ -11,25 +11,18 @@ use Rattle.cn_hall.specs.Calls.{CallFails, IsReply, IsSameSeat, MakesCall, go_af
 use Rattle.cn_hall.specs.Gates.{IsAsked, asked_times, steps_since}
 use Rattle.cn_hall.specs.Rule.{Carries}
 use Rattle.cn_hall.specs.declared.call.CallFault.{CallFault}
-use Rattle.cn_hall.specs.declared.call.CallFault.TheVariants as fault
+use Rattle.cn_hall.specs.declared.call.CallFault.TheVariants.{LogFull, Stopped}
 use Rattle.cn_log.specs.declared.event.Reply.{Reply}
 use Rattle.cn_hall.specs.declared.call.Go.{Go}
 use Rattle.cn_hall.specs.declared.call.Go.TheVariants.{On, Stop}
 use Rattle.cn_app.specs.Threads.Serving.{operations_called}
-use Rattle.cn_app.specs.declared.threads.workers.End.{End}
-use Rattle.cn_app.specs.declared.threads.workers.End.TheVariants.{Full, Stopped, Whole}
 use Rattle.cn_app.specs.declared.threads.workers.ProcessHistory.{ProcessHistory}
 
--- how the calls of a process end with a call that has no reply
-abbrev pub end_by : CallFault → End
-end_by fault.LogFull = Full
-end_by fault.Stopped = Stopped
-
--- what the gate of a process said last, by how its calls ended
-abbrev pub go_at : End → Go
-go_at Whole = On
-go_at Full = On
-go_at Stopped = Stop
+-- what the gate of a process said last, by the fault of the call without a reply, if there is one
+abbrev pub go_at : Option CallFault → Go
+go_at None = On
+go_at (Some LogFull) = On
+go_at (Some Stopped) = Stop
 
 -- the seat is one of the hall, nothing has happened in its core, and these are operations of its
 -- object
@@ -41,24 +34,25 @@ MayWork hall calls s = IsSeatOf hall s × (s.core.schedule ≡ [])
 abbrev pub HasRoom : List ℕ → ProcessHistory → Type 0
 HasRoom calls w = (w.replies.items ≡ []) × (length calls ≤ vec_capacity w.replies)
 
--- how calls that ended so leave a seat: each was made and has its reply; or some call has none, and
--- the seat has seen every slot; or the process made one call more than there are replies
-abbrev pub EndsAt : List ℕ → SeatState → List Reply → End → Type 0
-EndsAt calls t replies Whole =
+-- how calls leave a seat, by the fault of the call without a reply, if there is one: each was made
+-- and has its reply; or some call has none, and the seat has seen every slot; or the process made
+-- one call more than there are replies
+abbrev pub EndsAt : List ℕ → SeatState → List Reply → Option CallFault → Type 0
+EndsAt calls t replies None =
     (operations_called t.process t.core.schedule ≡ calls) × (length replies ≡ length calls)
-EndsAt calls t replies Full =
+EndsAt calls t replies (Some LogFull) =
     (length (slots_seen t) ≡ t.core.opening.capacity) × (length replies < length calls)
-EndsAt calls t replies Stopped =
+EndsAt calls t replies (Some Stopped) =
     length (operations_called t.process t.core.schedule) ≡ length replies + 1
 
 -- the seat has made the first of these calls, and has these replies
 pub record HasWorked (calls : List ℕ) (s t : SeatState) (replies : List Reply)
-    (end : End) : Type 0 where
+    (fault : Option CallFault) : Type 0 where
   pub same : IsSameSeat s t
   pub made : BeginsWith calls (operations_called t.process t.core.schedule)
   pub replied : own t ≡ replies
   pub range : All (λ r. r.response.0 < length t.core.opening.object.responses) replies
-  pub ended : EndsAt calls t replies end
+  pub ended : EndsAt calls t replies fault
 
 -- the seat at each place may make the calls at its place
 abbrev pub MayAllWork : HallId → List (Vec ℕ Global) → List SeatState → Type 0
@@ -77,7 +71,7 @@ HaveAllWorked calls before after worked =
     (p : ℕ) (c : Vec ℕ Global) (s t : SeatState) (w : ProcessHistory) → slice_get calls p ≡ Some c
     → slice_get before p ≡ Some s → slice_get after p ≡ Some t
     → slice_get worked p ≡ Some w
-    → HasWorked c.items s t w.replies.items w.end
+    → HasWorked c.items s t w.replies.items w.fault
 
 -- where a call of this operation leads a seat, by its answer: it was made and has this reply, or it
 -- failed so
@@ -98,25 +92,25 @@ pub record IsCallWithGate {G : Type 0} (asks : G → SeatState → ℕ → G →
       (asked_times answer (steps_since t.process t.core u.core)) h k
   pub said : says k ≡ go_after answer
 
--- where calls lead a seat and a gate, made one after the other until one has no reply, and how the
--- calls ended; nothing else is done with the gate
+-- where calls lead a seat and a gate, made one after the other until one has no reply, and the
+-- fault of this one, if there is one; nothing else is done with the gate
 pub data HasAsked {G : Type 0} (asks : G → SeatState → ℕ → G → Type 0) (says : G → Go)
-    (s : SeatState) (g : G) : SeatState → G → End → Type 0 where
-  NoCall : HasAsked asks says s g s g Whole
+    (s : SeatState) (g : G) : SeatState → G → Option CallFault → Type 0 where
+  NoCall : HasAsked asks says s g s g None
   Replied : {t u : SeatState} {h k : G} (operation : ℕ) (reply : Reply)
-      → HasAsked asks says s g t h Whole
+      → HasAsked asks says s g t h None
       → IsCallWithGate asks says operation (Ok reply) t h u k
-      → HasAsked asks says s g u k Whole
+      → HasAsked asks says s g u k None
   Ended : {t u : SeatState} {h k : G} (operation : ℕ) (fault : CallFault)
-      → HasAsked asks says s g t h Whole
+      → HasAsked asks says s g t h None
       → IsCallWithGate asks says operation (Err fault) t h u k
-      → HasAsked asks says s g u k (end_by fault)
+      → HasAsked asks says s g u k (Some fault)
 
 -- the same for a gate of the seat's thread: it said Stop last if a call was stopped, and else On
 abbrev pub GateWasAsked : {G : Type 0} → (G → SeatState → ℕ → G → Type 0) → (G → Go) → SeatState → G
-    → SeatState → End → Type 0
-GateWasAsked {G} asks says s g t end =
-    (last : G) × HasAsked asks says s g t last end × (says last ≡ go_at end)
+    → SeatState → Option CallFault → Type 0
+GateWasAsked {G} asks says s g t fault =
+    (last : G) × HasAsked asks says s g t last fault × (says last ≡ go_at fault)
 
 -- the calls of the seat at each place asked the gate at its place, and ended as those at its place
 abbrev pub AllGatesWereAsked : {G : Type 0} → (G → SeatState → ℕ → G → Type 0) → (G → Go)
@@ -126,12 +120,12 @@ AllGatesWereAsked {G} asks says before gates after worked =
     (p : ℕ) (s t : SeatState) (g : G) (w : ProcessHistory) → slice_get before p ≡ Some s
     → slice_get gates p ≡ Some g → slice_get after p ≡ Some t
     → slice_get worked p ≡ Some w
-    → GateWasAsked asks says s g t w.end
+    → GateWasAsked asks says s g t w.fault
 
--- all that process p did in the log is in calls with one gate, which was made for it, and the calls
--- ended so
+-- all that process p did in the log is in calls with one gate, which was made for it, and the call
+-- without a reply, if there is one, has this fault
 pub record HasOneGate {G : Type 0} (asks : G → SeatState → ℕ → G → Type 0) (says : G → Go)
-    (made : ℕ → G → Type 0) (core : Log) (p : ℕ) (end : End)
+    (made : ℕ → G → Type 0) (core : Log) (p : ℕ) (fault : Option CallFault)
     : Type 0 where
   pub gate : G
   pub before : SeatState
@@ -140,12 +134,12 @@ pub record HasOneGate {G : Type 0} (asks : G → SeatState → ℕ → G → Typ
   pub process : (before.process ≡ p) × (after.process ≡ p)
   pub first : before.core.schedule ≡ []
   pub carried : Carries p after.core core
-  pub asked : GateWasAsked asks says before gate after end
+  pub asked : GateWasAsked asks says before gate after fault
 
--- each process of the log's plan has one gate; place p of the list has how the calls of process p
--- ended
+-- each process of the log's plan has one gate; place p of the list has the fault of process p's call
+-- without a reply, if there is one
 abbrev pub EachHasOneGate : {G : Type 0} → (G → SeatState → ℕ → G → Type 0) → (G → Go)
     → (ℕ → G → Type 0) → Log → List ProcessHistory → Type 0
 EachHasOneGate asks says made core worked =
     (p : ℕ) → p < processes_of core.opening.plan
-    → (w : ProcessHistory) × (slice_get worked p ≡ Some w) × HasOneGate asks says made core p w.end
+    → (w : ProcessHistory) × (slice_get worked p ≡ Some w) × HasOneGate asks says made core p w.fault

@@ -2,6 +2,7 @@
 ghost use Rattle.std.specs.Prelude.{◌≡◌, ◌⊎◌, ◌≤◌, length, map, nat_lt, true, IfOk, IfErr, Some, None};
 ghost use Rattle.std.specs.List.{list_all};
 ghost use Rattle.cn_table.specs.Draft.{all_some};
+ghost use Rattle.cn_choice.specs.declared.limits.TheConstants.{MOST_PROCESSES};
 ghost use Rattle.cn_app.specs.Arguments.Calls.{calls_fit, calls_in, GivesCalls, GivesEach};
 
 use crate::arguments::list_text::ListText;
@@ -86,7 +87,7 @@ fn each_known(calls: &[Vec<u8>], operations: u8) -> bool
 /// object.
 pub(crate) fn calls_fit(opening: &Opening, calls: &[Vec<u8>]) -> bool
     ensures fit { result ≡ calls_fit opening.now (map (λ list. list.items) calls.now) }
-    ensures few { result ≡ true → length calls.now ≤ 8 }
+    ensures few { result ≡ true → length calls.now ≤ MOST_PROCESSES }
 {
     let (plan, object) = (opening.plan(), opening.object());
     calls.len() == usize::from(plan.processes()) && each_known(calls, object.operations())

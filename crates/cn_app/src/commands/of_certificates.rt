@@ -20,8 +20,7 @@ use crate::reports::check::verdict_report;
 use crate::reports::{AskedRun, agree_report, explain_report, show_report};
 use crate::streams::output::Output;
 use crate::streams::text::Text;
-use cn_forms::Form;
-use cn_json::AnswerForm;
+use cn_form::{AnswerForm, PlanForm};
 use std::alloc::Global;
 use std::io::{Read, Write};
 
@@ -97,7 +96,7 @@ pub fn show<R: Read, C: Read, W: Write>(
     table: &mut Text<R>,
     certificate: &mut Text<C>,
     output: &mut Output<W>,
-    form: Form,
+    form: PlanForm,
 ) -> Result<Outcome, AppFault>
     requires texts { IsUnread table.old × IsUnread certificate.old }
     requires output { IsWritable output.old }

@@ -45,8 +45,8 @@ pub fn agree_recoverably<T: Threads + Sync, R: Read, W: Write>(
     ensures read { HasRead Source.Table R.remaining table.old table.new }
     // promise: order-of-checks
     ensures order { (table.new ≡ table.old) ⊎ SpellLifeLists inputs.now schedule.now }
-    // promise: lives-by-agree (HasLivesReport: GivesLivesPlan, IsLived: consensus, written,
-    //     lives_text, life_step_lines, life_course_data)
+    // promise: lives-by-agree (HasLivesReport: GivesLivesPlan, IsLived: run, written, lives_text,
+    //     life_step_lines, life_course_data)
     ensures agreed { Reports W.contents
         (HasLivesReport table.new inputs.now schedule.now asked)
         output.old output.new result }

@@ -13,7 +13,7 @@ use crate::report::{Outcome, Report};
 use crate::reports::{AskedNumbers, head_report};
 use crate::streams::output::Output;
 use crate::streams::text::Text;
-use cn_json::DocumentForm;
+use cn_form::DocumentForm;
 use std::alloc::Global;
 use std::io::{Read, Write};
 use std::thread::Threads;

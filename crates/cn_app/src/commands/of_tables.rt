@@ -19,7 +19,7 @@ use crate::reports::{
 };
 use crate::streams::output::Output;
 use crate::streams::text::Text;
-use cn_json::{AnswerForm, DocumentForm};
+use cn_form::{AnswerForm, DocumentForm};
 use std::alloc::Global;
 use std::io::{Read, Write};
 use std::thread::Threads;

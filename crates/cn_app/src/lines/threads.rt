@@ -1,16 +1,19 @@
 //! The text of a service: the calls of each process, the entries of the log, and the events.
 ghost use Rattle.std.specs.Prelude.{◌≡◌, ◌≤◌, ◌<◌, ◌++◌, length, string_bytes, IfOk, OnOk};
+ghost use Rattle.cn_choice.specs.declared.limits.TheConstants.{MOST_PROCESSES};
 ghost use Rattle.cn_lines.specs.Log.{RepliesHaveResponses};
 ghost use Rattle.cn_app.specs.Lines.Threads.{EachHasResponses};
-ghost use Rattle.cn_app.specs.Lines.Threads.{call_lines, end_line, history_lines};
-ghost use Rattle.cn_app.specs.Lines.Threads.{end_answers, history_answers, reply_answers};
+ghost use Rattle.cn_app.specs.Lines.Threads.{call_lines, end_by, fault_answers};
+ghost use Rattle.cn_app.specs.Lines.Threads.{fault_line, history_answers, history_lines};
+ghost use Rattle.cn_app.specs.Lines.Threads.{reply_answers};
 ghost use Rattle.cn_app.specs.Lines.Threads.{service_lines, service_object, service_text};
 
 use crate::report::with_line_feed;
 use crate::threads::serving::ServiceHistory;
-use crate::threads::workers::{End, ProcessHistory};
-use cn_hall::Reply;
-use cn_json::{Answer, AnswerForm, AnswerOf, service_json};
+use crate::threads::workers::ProcessHistory;
+use cn_form::AnswerForm;
+use cn_hall::{CallFault, Reply};
+use cn_json::{AnswerOf, service_json};
 use cn_lines::{entry_lines, events_line, put_answer_line, put_number, reply_lines};
 use cn_log::CallEnd;
 use cn_log::laws::logs_are_linearized;
@@ -18,14 +21,19 @@ use cn_table::{State, Table};
 use std::alloc::{AllocError, Global};
 
 /// Appends the line of the call that has no reply, if there is one.
-fn put_end_line(lines: &mut String, object: &Table, process: u8, end: End) -> Result<(), AllocError>
+fn put_fault_line(
+    lines: &mut String,
+    object: &Table,
+    process: u8,
+    fault: Option<CallFault>,
+) -> Result<(), AllocError>
     ensures { OnOk result (string_bytes lines.new ≡ string_bytes lines.old
-        ++ end_line object.now process end) }
+        ++ fault_line object.now process fault) }
 {
-    match end {
-        End::Whole => Ok(()),
-        End::Full => put_answer_line(lines, object, process, CallEnd::Full),
-        End::Stopped => {
+    match fault {
+        None => Ok(()),
+        Some(CallFault::LogFull) => put_answer_line(lines, object, process, CallEnd::Full),
+        Some(CallFault::Stopped) => {
             lines.push_str("stopped ")?;
             put_number(lines, u16::from(process))?;
             lines.push_str("\n")
@@ -38,14 +46,14 @@ fn call_lines(
     object: &Table,
     process: u8,
     replies: &[Reply],
-    end: End,
+    fault: Option<CallFault>,
 ) -> Result<String, AllocError>
     requires { RepliesHaveResponses object.now replies.now }
     ensures { IfOk result (λ lines. string_bytes lines
-        ≡ call_lines object.now process replies.now end) }
+        ≡ call_lines object.now process replies.now fault) }
 {
     let mut lines = reply_lines(alloc, object, process, replies)?;
-    put_end_line(&mut lines, object, process, end)?;
+    put_fault_line(&mut lines, object, process, fault)?;
     Ok(lines)
 }
 
@@ -54,13 +62,13 @@ pub(crate) fn history_lines(
     object: &Table,
     worked: &[ProcessHistory],
 ) -> Result<String, AllocError>
-    requires few { length worked.now ≤ 8 }
+    requires few { length worked.now ≤ MOST_PROCESSES }
     requires range { EachHasResponses object.now worked.now }
     ensures { IfOk result (λ lines. string_bytes lines ≡ history_lines object.now 0 worked.now) }
 {
     let mut lines = String::new(alloc);
     for (process, one) in worked.iter().enumerate() {
-        let next = call_lines(alloc, object, process as u8, &one.replies, one.end)?;
+        let next = call_lines(alloc, object, process as u8, &one.replies, one.fault)?;
         lines.push_str(&next)?;
     }
     Ok(lines)
@@ -75,7 +83,7 @@ fn service_lines(
 ) -> Result<String, AllocError>
     requires object { service.now.core.opening.object ≡ object.now }
     requires start { start.0 < length object.now.states }
-    requires few { length service.now.processes.items ≤ 8 }
+    requires few { length service.now.processes.items ≤ MOST_PROCESSES }
     requires range { EachHasResponses object.now service.now.processes.items }
     ensures { IfOk result (λ lines. string_bytes lines
         ≡ service_lines object.now start.0 service.now.processes.items service.now.core) }
@@ -101,34 +109,46 @@ fn push_replies(
     for reply in replies {
         answers.push(AnswerOf {
             process,
-            answer: Answer::Replied(*reply),
+            end: Some(CallEnd::Answered(*reply)),
         })?;
     }
     Ok(())
 }
 
-/// Appends the call that has no reply, if there is one.
-fn push_end(answers: &mut Vec<AnswerOf>, process: u8, end: End) -> Result<(), AllocError>
-    ensures { OnOk result (answers.new.items ≡ answers.old.items ++ end_answers process end) }
+/// How a call with this fault ended. One that is stopped has no end.
+fn end_by(fault: CallFault) -> Option<CallEnd>
+    ensures { result ≡ end_by fault }
 {
-    let answer = match end {
-        End::Whole => return Ok(()),
-        End::Full => Answer::Full,
-        End::Stopped => Answer::Stopped,
-    };
-    answers.push(AnswerOf { process, answer })?;
+    match fault {
+        CallFault::LogFull => Some(CallEnd::Full),
+        CallFault::Stopped => None,
+    }
+}
+
+/// Appends the call that has no reply, if there is one.
+fn push_fault(
+    answers: &mut Vec<AnswerOf>,
+    process: u8,
+    fault: Option<CallFault>,
+) -> Result<(), AllocError>
+    ensures { OnOk result (answers.new.items ≡ answers.old.items ++ fault_answers process fault) }
+{
+    if let Some(fault) = fault {
+        let end = end_by(fault);
+        answers.push(AnswerOf { process, end })?;
+    }
     Ok(())
 }
 
 /// The calls of each process, as JSON tells them.
 fn history_answers(alloc: Global, worked: &[ProcessHistory]) -> Result<Vec<AnswerOf>, AllocError>
-    requires { length worked.now ≤ 8 }
+    requires { length worked.now ≤ MOST_PROCESSES }
     ensures { IfOk result (λ answers. answers.items ≡ history_answers 0 worked.now) }
 {
     let mut answers = Vec::new(alloc);
     for (process, one) in worked.iter().enumerate() {
         push_replies(&mut answers, process as u8, &one.replies)?;
-        push_end(&mut answers, process as u8, one.end)?;
+        push_fault(&mut answers, process as u8, one.fault)?;
     }
     Ok(answers)
 }
@@ -142,7 +162,7 @@ fn service_object(
 ) -> Result<String, AllocError>
     requires object { service.now.core.opening.object ≡ object.now }
     requires start { start.0 < length object.now.states }
-    requires few { length service.now.processes.items ≤ 8 }
+    requires few { length service.now.processes.items ≤ MOST_PROCESSES }
     requires range { EachHasResponses object.now service.now.processes.items }
     ensures { IfOk result (λ text. string_bytes text
         ≡ service_object object.now start.0 service.now.processes.items service.now.core) }
@@ -163,7 +183,7 @@ pub(crate) fn service_text(
 ) -> Result<String, AllocError>
     requires object { service.now.core.opening.object ≡ object.now }
     requires start { start.0 < length object.now.states }
-    requires few { length service.now.processes.items ≤ 8 }
+    requires few { length service.now.processes.items ≤ MOST_PROCESSES }
     requires range { EachHasResponses object.now service.now.processes.items }
     ensures { IfOk result (λ text. string_bytes text
         ≡ service_text form object.now start.0 service.now.processes.items service.now.core) }

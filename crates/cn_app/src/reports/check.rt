@@ -2,18 +2,17 @@
 ghost use Rattle.std.specs.Prelude.{◌≡◌, ◌++◌, IfErr, IfOk, codes, string_bytes};
 ghost use Rattle.serde_json.specs.Written.{compact_text};
 ghost use Rattle.cn_json.specs.Verdict.{accepted_data};
-ghost use Rattle.cn_json.specs.declared.form.AnswerForm.TheVariants.{Json};
-ghost use Rattle.cn_app.specs.Commands.Check.{IsCheckReport, IsFaultReport, IsOkReport, IsVerdictReport};
+ghost use Rattle.cn_form.specs.declared.answer_form.AnswerForm.TheVariants.{Json};
+ghost use Rattle.cn_app.specs.Commands.Check.{IsFaultReport, IsOkReport, IsVerdictReport};
 ghost use Rattle.cn_app.specs.Forms.{if_json};
-ghost use Rattle.cn_app.specs.Texts.Checked.{IsChecked};
 ghost use Rattle.cn_app.specs.declared.fault.AppFault.TheVariants.{OutOfMemory};
 ghost use Rattle.cn_app.specs.declared.report.Outcome.TheVariants.{Refused};
 
 use crate::fault::AppFault;
-use crate::readers::checked::Checked;
 use crate::report::{Outcome, Report, with_line_feed};
 use cn_check::laws::accepted_is_right;
-use cn_json::{AnswerForm, unread_json, verdict_json};
+use cn_form::AnswerForm;
+use cn_json::{unread_json, verdict_json};
 use std::alloc::{AllocError, Global};
 
 /// What is written of an accepted certificate.
@@ -33,18 +32,6 @@ fn ok_report(alloc: Global, form: AnswerForm) -> Result<Report, AppFault>
 {
     accepted_is_right();
     Ok(Report::whole(ok_text(alloc, form)?))
-}
-
-/// `ok` and a line feed, for an accepted certificate. As JSON, the verdict ([`verdict_json`]).
-///
-/// # Errors
-///
-/// `OutOfMemory`.
-pub fn check_report(alloc: Global, checked: &Checked, form: AnswerForm) -> Result<Report, AppFault>
-    requires { IsChecked checked.now }
-    ensures { IsCheckReport form checked.now result }
-{
-    ok_report(alloc, form)
 }
 
 /// The report on a certificate that is refused for this fault.

@@ -10,8 +10,9 @@ use crate::readers::checked::Checked;
 use crate::report::{Report, with_line_feed};
 use cn_check::laws::accepted_is_right;
 use cn_documents::explanation_markdown;
+use cn_form::DocumentForm;
 use cn_forms::{Explanation, TypeNumber, explanation_of};
-use cn_json::{DocumentForm, explanation_json};
+use cn_json::explanation_json;
 use std::alloc::{AllocError, Global};
 
 /// What there is to tell of a certificate and its number up to its limit.

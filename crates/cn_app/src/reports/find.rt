@@ -3,7 +3,8 @@ ghost use Rattle.cn_app.specs.Commands.Find.{GivesFound, IsFindReport, IsLimitFo
 
 use crate::fault::AppFault;
 use crate::report::Report;
-use cn_cert::{Certificate, find_text};
+use cn_cert::Certificate;
+use cn_find_text::find_text;
 use cn_search::greatest_limit;
 use cn_table::Table;
 use std::alloc::Global;

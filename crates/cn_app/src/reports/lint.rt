@@ -8,8 +8,9 @@ ghost use Rattle.cn_app.specs.declared.limits.TheConstants.{MOST_TABLE_BYTES};
 use crate::fault::AppFault;
 use crate::report::{Outcome, Report, with_line_feed};
 use cn_flaws::{Flaw, flaws};
+use cn_form::AnswerForm;
 use cn_forms::grid_of;
-use cn_json::{AnswerForm, flaws_json};
+use cn_json::flaws_json;
 use cn_table::{Table, TableFault, read_table};
 use std::alloc::{AllocError, Global};
 

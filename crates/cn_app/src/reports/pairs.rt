@@ -5,7 +5,8 @@ ghost use Rattle.cn_app.specs.Commands.Pairs.{ArePairs, IsPairsReport, pairs_in}
 use crate::fault::AppFault;
 use crate::report::{Report, with_line_feed};
 use cn_documents::{pairs_lines, pairs_table};
-use cn_json::{DocumentForm, pairs_json};
+use cn_form::DocumentForm;
+use cn_json::pairs_json;
 use cn_pairs::{Pairs, pairs_of};
 use cn_table::Table;
 use std::alloc::{AllocError, Global};

@@ -10,7 +10,8 @@ ghost use Rattle.cn_app.specs.Commands.Replay.{IsReplayReport, log_lines, log_ob
 use crate::answers::{ReplayHistory, answers_of};
 use crate::fault::AppFault;
 use crate::report::{Outcome, Report, with_line_feed};
-use cn_json::{Answer, AnswerForm, AnswerOf, log_json};
+use cn_form::AnswerForm;
+use cn_json::{AnswerOf, log_json};
 use cn_lines::{answer_lines, entry_lines};
 use cn_log::{CallEnd, Event, Opening};
 use std::alloc::{AllocError, Global};
@@ -33,11 +34,8 @@ fn has_full(ends: &[(u8, CallEnd)]) -> bool
 fn answer_of(process: u8, end: CallEnd) -> AnswerOf
     ensures { result ≡ answer_of (process, end) }
 {
-    let answer = match end {
-        CallEnd::Answered(reply) => Answer::Replied(reply),
-        CallEnd::Full => Answer::Full,
-    };
-    AnswerOf { process, answer }
+    let end = Some(end);
+    AnswerOf { process, end }
 }
 
 /// The calls that ended, as JSON tells them.

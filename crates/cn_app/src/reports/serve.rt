@@ -1,8 +1,8 @@
 //! The report of `serve`.
-ghost use Rattle.std.specs.Prelude.{◌≡◌, ℕ, map};
+ghost use Rattle.std.specs.Prelude.{◌≡◌, ℕ, is_some, map};
 ghost use Rattle.std.specs.List.{list_any};
 ghost use Rattle.cn_hall.specs.declared.call.Go.TheVariants.{On};
-ghost use Rattle.cn_app.specs.Commands.Serve.{IsServeReport, is_cut};
+ghost use Rattle.cn_app.specs.Commands.Serve.{IsServeReport};
 ghost use Rattle.cn_app.specs.Threads.Workers.{EachHasOneGate};
 
 use crate::arguments::calls::calls_fit;
@@ -10,27 +10,20 @@ use crate::fault::{AppFault, Argument};
 use crate::lines::threads::service_text;
 use crate::report::{Outcome, Report};
 use crate::threads::serving::serve_calls;
-use crate::threads::workers::{End, ProcessHistory};
+use crate::threads::workers::ProcessHistory;
+use cn_form::AnswerForm;
 use cn_hall::Gate;
-use cn_json::AnswerForm;
 use cn_log::laws::logs_are_linearized;
 use cn_log::{LogCore, Opening};
 use std::alloc::Global;
 use std::sync::Wait;
 use std::thread::Threads;
 
-/// Whether the calls of a process end with one that has no reply.
-fn is_cut(end: End) -> bool
-    ensures { result ≡ is_cut end }
-{
-    !matches!(end, End::Whole)
-}
-
-/// Whether some process has such an end.
+/// Whether some process has a call with no reply.
 fn has_cut(worked: &[ProcessHistory]) -> bool
-    ensures { result ≡ list_any (λ w. is_cut w.end) worked.now }
+    ensures { result ≡ list_any (λ w. is_some w.fault) worked.now }
 {
-    worked.iter().any(|one| is_cut(one.end))
+    worked.iter().any(|one| one.fault.is_some())
 }
 
 /// Serves the object of this opening with a thread for each process. The thread makes the calls of

@@ -5,7 +5,8 @@ ghost use Rattle.cn_app.specs.Texts.Checked.{IsChecked};
 use crate::fault::AppFault;
 use crate::readers::checked::Checked;
 use crate::report::Report;
-use cn_forms::{Form, plan_as};
+use cn_form::PlanForm;
+use cn_forms::plan_as;
 use std::alloc::Global;
 
 /// The plan of the certificate's witness in a form.
@@ -13,7 +14,7 @@ use std::alloc::Global;
 /// # Errors
 ///
 /// Those of [`Checked::plan`]. Want of memory can stand in place of any answer.
-pub fn show_report(alloc: Global, checked: &Checked, form: Form) -> Result<Report, AppFault>
+pub fn show_report(alloc: Global, checked: &Checked, form: PlanForm) -> Result<Report, AppFault>
     requires { IsChecked checked.now }
     ensures { IsShowReport checked.now form result }
 {

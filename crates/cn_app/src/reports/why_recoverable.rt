@@ -5,7 +5,8 @@ ghost use Rattle.cn_app.specs.Commands.WhyRecoverable.{IsWhyRecoverableReport, r
 
 use crate::fault::AppFault;
 use crate::report::{Report, with_line_feed};
-use cn_json::{DocumentForm, recoverable_explanation_json};
+use cn_form::DocumentForm;
+use cn_json::recoverable_explanation_json;
 use cn_recover_reasons::{
     RecoverableExplanation, recoverable_explanation_markdown, recoverable_explanation_of,
 };

@@ -6,7 +6,7 @@ ghost use Rattle.cn_app.specs.Threads.Serving.{HasServed};
 ghost use Rattle.cn_app.specs.Threads.Workers.{EachHasOneGate, HaveRoom};
 ghost use Rattle.cn_app.specs.declared.threads.serving.ServeFault.TheVariants.{OutOfMemory};
 
-use crate::threads::workers::{End, ProcessHistory, answer_each};
+use crate::threads::workers::{ProcessHistory, answer_each};
 use cn_hall::{Gate, open};
 use cn_log::LogCore;
 use std::alloc::{AllocError, Global};
@@ -40,7 +40,7 @@ fn make_rooms(alloc: Global, calls: &[Vec<u8>]) -> Result<Vec<ProcessHistory>, A
         let replies = Vec::with_capacity(alloc, operations.len())?;
         rooms.push_reserved(ProcessHistory {
             replies,
-            end: End::Whole,
+            fault: None,
         });
     }
     Ok(rooms)
@@ -91,7 +91,7 @@ pub(crate) fn serve_calls<R: Threads + Wait + Sync, G: Gate + Send + Drop, F: Fn
     ensures count { IfOk result (λ served. length served.processes.items ≡ length calls.now) }
     ensures served { IfOk result (λ served. (p : ℕ) (c w : _) → slice_get calls.now p ≡ Some c
         → slice_get served.processes.items p ≡ Some w
-        → HasServed served.core p c.items w.replies.items w.end) }
+        → HasServed served.core p c.items w.replies.items w.fault) }
     ensures gates { IfOk result (λ served. EachHasOneGate G.asks G.says
         (λ p g. F.post make_gate p g) served.core served.processes.items) }
 {

@@ -2,43 +2,21 @@
 ghost use Rattle.std.specs.Prelude.{◌≡◌, ◌≤◌, All, IfSome, length, vec_capacity};
 ghost use Rattle.std.specs.Thread.{IsSync};
 ghost use Rattle.cn_hall.specs.declared.call.Go.TheVariants.{On};
-ghost use Rattle.cn_app.specs.Threads.Workers.{AllGatesWereAsked, GateWasAsked, HasRoom, HasWorked, HaveAllWorked, HaveRoom, MayAllWork, MayWork, end_by};
+ghost use Rattle.cn_app.specs.Threads.Workers.{AllGatesWereAsked, GateWasAsked, HasRoom, HasWorked, HaveAllWorked, HaveRoom, MayAllWork, MayWork};
 
 use cn_hall::{CallFault, Gate, Hall, Reply, Seat};
 use cn_table::Operation;
 use std::snapshot::Snapshot;
 use std::sync::Wait;
 use std::thread;
-use std::thread::{Promise, Threads};
+use std::thread::{Promise, PromisedHandle, Scope, Threads};
 
-/// How the calls of a process ended.
-#[derive(Clone, Copy)]
-pub(crate) enum End {
-    /// Each has its reply.
-    Whole,
-    /// One found no slot.
-    Full,
-    /// The gate stopped one.
-    Stopped,
-}
-
-impl End {
-    /// The end of calls whose last one has no reply.
-    fn by(fault: CallFault) -> End
-        ensures { result ≡ end_by fault }
-    {
-        match fault {
-            CallFault::LogFull => End::Full,
-            CallFault::Stopped => End::Stopped,
-        }
-    }
-}
-
-/// The replies to the calls of a process, in order, and how the calls ended.
+/// The replies to the calls of a process, in order, and the fault of the call behind them that has no
+/// reply, if there is one.
 #[derive(Drop)]
 pub(crate) struct ProcessHistory {
     pub replies: Vec<Reply>,
-    pub end: End,
+    pub fault: Option<CallFault>,
 }
 
 /// Makes the calls of one process, one after the other, until one has no reply.
@@ -53,8 +31,8 @@ fn answer<R: Wait, G: Gate + Drop>(
     requires seat { MayWork hall.now operations.now seat }
     requires room { HasRoom operations.now room }
     requires gate { G.says gate ≡ On }
-    ensures worked { HasWorked operations.now seat result.0 result.1.replies.items result.1.end }
-    ensures asked { GateWasAsked G.asks G.says seat gate result.0 result.1.end }
+    ensures worked { HasWorked operations.now seat result.0 result.1.replies.items result.1.fault }
+    ensures asked { GateWasAsked G.asks G.says seat gate result.0 result.1.fault }
 {
     let mut seat = seat;
     let mut gate = gate;
@@ -63,13 +41,13 @@ fn answer<R: Wait, G: Gate + Drop>(
         match hall.call(rt, &mut seat, Operation(*operation), &mut gate) {
             Ok(reply) => replies.push_reserved(reply),
             Err(fault) => {
-                let end = End::by(fault);
-                return (seat, ProcessHistory { replies, end });
+                let fault = Some(fault);
+                return (seat, ProcessHistory { replies, fault });
             }
         }
     }
-    let end = End::Whole;
-    (seat, ProcessHistory { replies, end })
+    let fault = None;
+    (seat, ProcessHistory { replies, fault })
 }
 
 /// What the thread of a seat promises.
@@ -84,8 +62,48 @@ impl<G: Gate> Promise<(Seat, ProcessHistory)> for AnswerOf<G> {
     ghost use Rattle.cn_app.specs.Threads.Workers.{GateWasAsked, HasWorked};
 
     ghost kept_by = { λ p r.
-        HasWorked p.operations.value.items p.seat.value r.0 r.1.replies.items r.1.end
-        × GateWasAsked G.asks G.says p.seat.value p.gate.value r.0 r.1.end };
+        HasWorked p.operations.value.items p.seat.value r.0 r.1.replies.items r.1.fault
+        × GateWasAsked G.asks G.says p.seat.value p.gate.value r.0 r.1.fault };
+}
+
+/// Starts a thread of a scope that makes the calls of one process. Answers `None` if it could not be
+/// started.
+fn start<'s, E, R: Wait + Sync, G: Gate + Send + Drop + 's>(
+    scope: &Scope<'s, E>,
+    rt: &'s R,
+    hall: &'s Hall,
+    seat: Seat,
+    room: ProcessHistory,
+    gate: G,
+    operations: &'s Vec<u8>,
+) -> Option<PromisedHandle<(Seat, ProcessHistory), AnswerOf<G>>>
+    requires rt { IsSync R.row }
+    requires seat { MayWork hall.now operations.now.items seat }
+    requires room { HasRoom operations.now.items room }
+    requires gate { G.says gate ≡ On }
+    ensures { IfSome result (λ child. (child.promise.seat.value ≡ seat)
+        × (child.promise.gate.value ≡ gate)
+        × (child.promise.operations.value ≡ operations.now)) }
+{
+    let promise = AnswerOf {
+        seat: Snapshot::of(&seat),
+        gate: Snapshot::of(&gate),
+        operations: Snapshot::of(operations),
+    };
+    let child = scope.spawn_with(
+        promise,
+        move || -> (Seat, ProcessHistory)
+            requires { MayWork hall.now operations.now.items seat
+                × HasRoom operations.now.items room × (G.says gate ≡ On) }
+            ensures worked { HasWorked operations.entry.now.items seat result.0
+                result.1.replies.items result.1.fault }
+            ensures asked { GateWasAsked G.asks G.says seat gate result.0 result.1.fault }
+        { answer(rt, hall, seat, room, gate, operations) },
+    );
+    let Ok(child) = child else {
+        return None;
+    };
+    Some(child)
 }
 
 /// Makes the calls of all seats, with a thread of a scope for each seat, and joins the threads.
@@ -112,9 +130,7 @@ pub(crate) fn answer_each<R: Threads + Wait + Sync, G: Gate + Send + Drop>(
     ensures asked { IfSome result (λ r. AllGatesWereAsked G.asks G.says seats.items gates.items
         r.0.items r.1.items) }
 {
-    let mut seats = seats;
-    let mut rooms = rooms;
-    let mut gates = gates;
+    let (mut seats, mut rooms, mut gates) = (seats, rooms, gates);
     let Some(seat) = seats.pop() else {
         return Some((seats, rooms));
     };
@@ -144,28 +160,11 @@ pub(crate) fn answer_each<R: Threads + Wait + Sync, G: Gate + Send + Drop>(
             ensures asked { IfSome result (λ r. AllGatesWereAsked G.asks G.says seats.items
                 gates.items r.0.0.items r.0.1.items) }
             ensures last { IfSome result (λ r. HasWorked operations.entry.now.items seat r.1.0
-                r.1.1.replies.items r.1.1.end) }
+                r.1.1.replies.items r.1.1.fault) }
             ensures last_asked { IfSome result (λ r. GateWasAsked G.asks G.says seat gate r.1.0
-                r.1.1.end) }
+                r.1.1.fault) }
         {
-            let promise = AnswerOf {
-                seat: Snapshot::of(&seat),
-                gate: Snapshot::of(&gate),
-                operations: Snapshot::of(operations),
-            };
-            let child = scope.spawn_with(
-                promise,
-                move || -> (Seat, ProcessHistory)
-                    requires { MayWork hall.now operations.now.items seat
-                        × HasRoom operations.now.items room × (G.says gate ≡ On) }
-                    ensures worked { HasWorked operations.entry.now.items seat result.0
-                        result.1.replies.items result.1.end }
-                    ensures asked { GateWasAsked G.asks G.says seat gate result.0 result.1.end }
-                { answer(rt, hall, seat, room, gate, operations) },
-            );
-            let Ok(child) = child else {
-                return None;
-            };
+            let child = start(scope, rt, hall, seat, room, gate, operations)?;
             let rest = answer_each(rt, hall, seats, rooms, gates, calls);
             let last = child.join(rt);
             Some((rest?, last))

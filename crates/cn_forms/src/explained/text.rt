@@ -71,7 +71,7 @@ fn push_end(alloc: Global, text: &mut String, explanation: &Explanation) -> Resu
 /// - the pairs by which each process of the certificate's witness tells which team was first;
 /// - if the certificate's number is below its limit, why there is no more: the rule that says so,
 ///   if there is one, and for each choice that the certificate refutes, two runs by which a process
-///   cannot tell. It has the first [`MOST_TOLD`](crate::MOST_TOLD) of these choices, or, with
+///   cannot tell. It has the first [`MOST_TOLD`](cn_form::MOST_TOLD) of these choices, or, with
 ///   `all`, every one. With no limit and a rule, it has them only with `all`;
 /// - the pairs of operations that do not interfere, if they are few and the number is above 2.
 ///

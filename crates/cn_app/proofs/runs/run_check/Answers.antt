@@ -1,5 +1,5 @@
 use Rattle.std.proofs.Common.{None}
-use Rattle.cn_json.specs.declared.form.AnswerForm.TheVariants as answer
+use Rattle.cn_form.specs.declared.answer_form.AnswerForm.TheVariants as answer
 use Rattle.cn_app.specs.Commands.Check.{HasCheckReport}
 use Rattle.cn_app.specs.Runs.{check_of}
 use Rattle.cn_app.proofs.RunLemmas.{check_is, of_certificate, of_table, written}

@@ -1,5 +1,5 @@
 use Rattle.std.proofs.Common.{None, ap}
-use Rattle.cn_json.specs.declared.form.AnswerForm.TheVariants as answer
+use Rattle.cn_form.specs.declared.answer_form.AnswerForm.TheVariants as answer
 use Rattle.cn_app.specs.Commands.Replay.{HasReplayReport}
 use Rattle.cn_app.specs.Runs.{replay_of}
 use Rattle.cn_app.specs.declared.arguments.list_text.ListText.TheVariants.{Word}

@@ -1,5 +1,5 @@
 use Rattle.std.proofs.Common.{None, ap}
-use Rattle.cn_json.specs.declared.form.AnswerForm.TheVariants as answer
+use Rattle.cn_form.specs.declared.answer_form.AnswerForm.TheVariants as answer
 use Rattle.cn_app.specs.Commands.Serve.{HasServeReport}
 use Rattle.cn_app.specs.Runs.{serve_of}
 use Rattle.cn_app.specs.Threads.Workers.{EachHasOneGate}

@@ -1,5 +1,5 @@
 use Rattle.std.proofs.Common.{None}
-use Rattle.cn_forms.specs.declared.plan_forms.Form.TheVariants as form
+use Rattle.cn_form.specs.declared.plan_form.PlanForm.TheVariants as form
 use Rattle.cn_app.specs.Commands.Show.{HasShowReport}
 use Rattle.cn_app.specs.Runs.{show_of}
 use Rattle.cn_app.proofs.RunLemmas.{of_certificate, of_table, show_is, written}

@@ -1,7 +1,7 @@
 use Rattle.std.proofs.Common.{Option, subst}
 use Rattle.cn_choice.specs.Canonical.{Choice}
 use Rattle.cn_choice.specs.Live.{live_choices}
-use Rattle.cn_search.specs.Evidence.{IsFirst, IsFirstAmong, NoneIs}
+use Rattle.cn_finding.specs.Evidence.{IsFirst, IsFirstAmong, NoneIs}
 use Rattle.cn_recover.specs.Recording.{IsRecordingWitness}
 use Rattle.cn_lives.proofs.FirstPlans.{found_fits, home_many, stands}
 use Rattle.cn_lives.proofs.first.first_plan.Goals as goal
@@ -35,9 +35,8 @@ returns-in_ok-plan_of_witness-in-Some g c =
     c.in-Some.is c.in_ok-first_recording_witness.ensures in
     let raw = ((c.live_list.ensures.listed t n w).0 (stands t n w first)).1 in
     let plan = c.in_ok-plan_of_witness-in-Some in (
-      w,
-      first,
+      plan.ensures.plan,
       plan.ensures.table,
-      plan.ensures.choice,
       home_many t n w first raw plan.field-0.plan.choice plan.ensures.choice,
+      (w, first, plan.ensures.choice),
     )

@@ -1,10 +1,10 @@
 use Rattle.std.proofs.Common.{◌∙◌, ap, sym}
 use Rattle.cn_proto.specs.Plan.{processes_of}
-use Rattle.cn_agree.proofs.Running.{no_stranger, right_count}
+use Rattle.cn_agree.proofs.Running.{no_stranger}
 use Rattle.cn_lives.specs.Lives.{world_of}
-use Rattle.cn_lives.specs.Schedules.{execution_of, named}
+use Rattle.cn_lives.specs.Schedules.{named}
 use Rattle.cn_lives.proofs.Fitting.{fits}
-use Rattle.cn_lives.proofs.Running.{all_named, execution_named}
+use Rattle.cn_lives.proofs.Running.{all_named}
 use Rattle.cn_lives.proofs.schedule.run_lives.Goals as goal
 
 pub take_all-requires-clause-schedule : goal.take_all-requires-clause-schedule
@@ -20,12 +20,3 @@ decisions_of-requires c =
     let h = fits c.args.plan.now laws.plan.is_plan laws.sound lives.0
     (world_of c.take_all.new.lives) lives.1 in
     c.processes.ensures.number ∙ (ap processes_of c.plan.ensures ∙ sym h.locals_are)
-
-pub returns-clause-consensus : goal.returns-clause-consensus
-returns-clause-consensus c =
-    let n = processes_of c.args.plan.now.plan in
-    let s = c.args.schedule.now in
-    let run = c.in_ok-lives.ensures.run in
-    c.lives_reach_consensus.ensures c.args.inputs.now (execution_of s)
-    (right_count n c.args.inputs.now (named s) run)
-    (execution_named n s (no_stranger n c.args.inputs.now (named s) run))

@@ -1,6 +1,6 @@
 use Rattle.std.specs.Prelude.{◌≡◌, ◌<◌, ◌-◌, ℕ, length, None}
 use Rattle.cn_search.specs.Faults.{find_fault}
-use Rattle.cn_search.specs.declared.limits.TheConstants.{GREATEST_LIMIT}
+use Rattle.cn_finding.specs.declared.limits.TheConstants.{GREATEST_LIMIT}
 use Rattle.cn_search.proofs.greatest.greatest_limit.Given as goal
 
 -- each limit above this one is refused

@@ -3,7 +3,7 @@ use Rattle.std.proofs.lemmas.List.Elements.{All-push}
 use Rattle.cn_choice.specs.Canonical.{Choice, raw_choice_of}
 use Rattle.cn_choice.specs.Blocks.{Block}
 use Rattle.cn_choice.specs.RawChoices.{IsRawChoice}
-use Rattle.cn_search.specs.Evidence.{NoneIs}
+use Rattle.cn_finding.specs.Evidence.{NoneIs}
 use Rattle.cn_search.proofs.ListLemmas.{Contains-between}
 use Rattle.cn_search.proofs.kind.first_in.Goals as goal
 

@@ -1,7 +1,7 @@
 use Rattle.std.proofs.Common.{◌≡◌, ◌++◌, List, length}
 use Rattle.cn_choice.specs.Canonical.{Choice}
 use Rattle.cn_choice.specs.Live.{live_in}
-use Rattle.cn_search.specs.Evidence.{NoneIs}
+use Rattle.cn_finding.specs.Evidence.{NoneIs}
 use Rattle.cn_search.proofs.kind.first_in.Given as goal
 
 -- the choices so far and those that are left are all, and none so far is a witness of the kind

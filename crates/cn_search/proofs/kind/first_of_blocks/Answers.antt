@@ -5,7 +5,8 @@ use Rattle.cn_table.specs.TypeTable.{TypeTable}
 use Rattle.cn_choice.specs.Blocks.{Block}
 use Rattle.cn_choice.specs.Canonical.{Choice}
 use Rattle.cn_choice.specs.RawChoices.{RawChoice}
-use Rattle.cn_search.specs.Evidence.{IsFirstAmong, IsListedBlock, NoneIs, choices_of_all}
+use Rattle.cn_finding.specs.Evidence.{IsFirstAmong, NoneIs}
+use Rattle.cn_search.specs.Search.{IsListedBlock, choices_of_all}
 use Rattle.cn_search.proofs.Batches.{IsSearched, nil_from_length, search_done, search_found, search_on}
 use Rattle.cn_search.proofs.ListLemmas.{parts}
 use Rattle.cn_search.proofs.kind.first_of_blocks.Goals as goal

@@ -1,5 +1,5 @@
 use Rattle.std.proofs.Common.{◌≤◌, All, length}
-use Rattle.cn_search.specs.Evidence.{IsListedBlock}
+use Rattle.cn_search.specs.Search.{IsListedBlock}
 use Rattle.cn_search.proofs.Batches.{IsSearched}
 use Rattle.cn_search.proofs.kind.first_of_blocks.Given as goal
 

@@ -8,7 +8,8 @@ use Rattle.cn_choice.specs.Blocks.{Block}
 use Rattle.cn_choice.specs.Canonical.{Choice}
 use Rattle.cn_choice.specs.Live.{live_choices, live_in}
 use Rattle.cn_choice.specs.RawChoices.{RawChoice}
-use Rattle.cn_search.specs.Evidence.{IsFirst, IsFirstAmong, IsListedBlock, choices_of_all}
+use Rattle.cn_finding.specs.Evidence.{IsFirst, IsFirstAmong}
+use Rattle.cn_search.specs.Search.{IsListedBlock, choices_of_all}
 use Rattle.cn_search.proofs.Batches.{ahead, all_listed}
 use Rattle.cn_search.proofs.ListLemmas.{parts}
 use Rattle.cn_search.proofs.kind.first_within.Goals as goal

@@ -3,7 +3,7 @@ use Rattle.rayon.proofs.ListFacts.{IfOk-then}
 use Rattle.rayon.proofs.ToStd.{slice-AllZip}
 use Rattle.cn_choice.specs.Blocks.{Block}
 use Rattle.cn_choice.specs.Canonical.{Choice}
-use Rattle.cn_search.specs.Evidence.{IsFirstAmong}
+use Rattle.cn_finding.specs.Evidence.{IsFirstAmong}
 use Rattle.cn_choice.specs.Live.{live_in}
 use Rattle.cn_search.proofs.kind.firsts.Goals as goal
 

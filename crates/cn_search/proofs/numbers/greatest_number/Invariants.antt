@@ -1,6 +1,6 @@
 use Rattle.std.specs.Prelude.{◌≡◌, MatchOption, None}
 use Rattle.cn_choice.specs.Discerning.{IsDiscerning}
-use Rattle.cn_search.specs.Evidence.{IsKnownAt}
+use Rattle.cn_search.specs.Search.{IsKnownAt}
 use Rattle.cn_search.proofs.NumberLemmas.{HasTried}
 use Rattle.cn_search.proofs.numbers.greatest_number.Given as goal
 

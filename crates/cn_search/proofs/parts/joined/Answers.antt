@@ -3,7 +3,7 @@ use Rattle.std.specs.Vec.Iter.{into_iter_items}
 use Rattle.std.proofs.lemmas.List.{take_all, take_more}
 use Rattle.cn_choice.specs.Blocks.{Block}
 use Rattle.cn_choice.specs.Live.{live_in}
-use Rattle.cn_search.specs.Evidence.{choices_of_all}
+use Rattle.cn_search.specs.Search.{choices_of_all}
 use Rattle.cn_search.specs.Kept.{KeepsFor}
 use Rattle.cn_search.proofs.Batches.{keeps_more}
 use Rattle.cn_search.proofs.PartLemmas.{first_of_left, kept_in_slot}

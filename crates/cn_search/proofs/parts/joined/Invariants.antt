@@ -1,6 +1,6 @@
 use Rattle.std.proofs.Common.{◌≡◌, drop, take}
 use Rattle.std.specs.Vec.Iter.{into_iter_items}
-use Rattle.cn_search.specs.Evidence.{choices_of_all}
+use Rattle.cn_search.specs.Search.{choices_of_all}
 use Rattle.cn_search.specs.Kept.{KeepsFor}
 use Rattle.cn_search.proofs.parts.joined.Given as goal
 

@@ -5,7 +5,7 @@ use Rattle.cn_choice.specs.Blocks.{Block}
 use Rattle.cn_choice.specs.Discerning.{IsWitness}
 use Rattle.cn_choice.specs.RawChoices.{IsRawChoice}
 use Rattle.cn_collisions.specs.Examination.{collision_with}
-use Rattle.cn_search.specs.Evidence.{AreRecordedFor, IsRecordedFor}
+use Rattle.cn_finding.specs.Evidence.{AreRecordedFor, IsRecordedFor}
 use Rattle.cn_choice.specs.Live.{live_in}
 use Rattle.cn_search.proofs.ListLemmas.{AllZip-append_one, Contains-between}
 use Rattle.cn_search.proofs.search.add_block.Goals as goal

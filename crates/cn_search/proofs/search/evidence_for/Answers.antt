@@ -1,6 +1,7 @@
 use Rattle.std.proofs.Common.{◌∙◌, ap, sym, subst, List, IfOk}
 use Rattle.cn_choice.specs.Canonical.{Choice}
-use Rattle.cn_search.specs.Evidence.{NoneIsWitness, choices_of_all}
+use Rattle.cn_finding.specs.Evidence.{NoneIsWitness}
+use Rattle.cn_search.specs.Search.{choices_of_all}
 use Rattle.cn_search.specs.Kept.{KeepsFor}
 use Rattle.cn_search.proofs.Batches.{all_refuted_with}
 use Rattle.cn_search.proofs.FindingLemmas.{none_found}

@@ -5,7 +5,8 @@ use Rattle.cn_choice.specs.Blocks.{Block}
 use Rattle.cn_choice.specs.Discerning.{IsDiscerning, IsWitness}
 use Rattle.cn_choice.specs.Live.{live_blocks, live_choices}
 use Rattle.cn_choice.specs.Canonical.{Choice}
-use Rattle.cn_search.specs.Evidence.{HaveFirstOf, IsFirstAmong, IsFirstWitness, IsListedBlock, NoneIsWitness, choices_of_all}
+use Rattle.cn_finding.specs.Evidence.{IsFirstAmong, IsFirstWitness, NoneIsWitness}
+use Rattle.cn_search.specs.Search.{HaveFirstOf, IsListedBlock, choices_of_all}
 use Rattle.cn_search.proofs.FindingLemmas.{first_known, stocks_decide, witness_found}
 use Rattle.cn_search.proofs.search.witness_at.Goals as goal
 

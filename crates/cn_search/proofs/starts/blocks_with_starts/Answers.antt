@@ -3,7 +3,7 @@ use Rattle.std.specs.Prelude.{IsBitSet}
 use Rattle.std.proofs.lemmas.List.Elements.{All-push}
 use Rattle.cn_choice.specs.Blocks.{Block}
 use Rattle.cn_choice.specs.Live.{live_blocks}
-use Rattle.cn_search.specs.Evidence.{HaveFirstOf, IsListedBlock}
+use Rattle.cn_search.specs.Search.{HaveFirstOf, IsListedBlock}
 use Rattle.cn_search.proofs.ListLemmas.{Contains-between}
 use Rattle.cn_search.proofs.StartLemmas.{first_with, first_without, has_splitting, listed_block, none_from_state}
 use Rattle.cn_search.proofs.starts.blocks_with_starts.Goals as goal

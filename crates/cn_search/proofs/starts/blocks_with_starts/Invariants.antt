@@ -1,6 +1,6 @@
 use Rattle.std.proofs.Common.{◌≡◌, ◌++◌, All}
 use Rattle.cn_choice.specs.Live.{live_blocks}
-use Rattle.cn_search.specs.Evidence.{HaveFirstOf, IsListedBlock}
+use Rattle.cn_search.specs.Search.{HaveFirstOf, IsListedBlock}
 use Rattle.cn_search.proofs.starts.blocks_with_starts.Given as goal
 
 -- the blocks so far and those that are left are all, and those that are kept have the first witness of the blocks so far

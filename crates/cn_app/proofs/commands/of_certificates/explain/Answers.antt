@@ -1,6 +1,6 @@
 use Rattle.std.proofs.Common.{inr, subst}
 use Rattle.cn_app.specs.Commands.Explain.{HasExplainReport, IsExplainReport}
-use Rattle.cn_json.specs.declared.form.DocumentForm.{DocumentForm}
+use Rattle.cn_form.specs.declared.answer_form.DocumentForm.{DocumentForm}
 use Rattle.cn_app.proofs.CommandLemmas.Reports.{reported}
 use Rattle.cn_app.proofs.commands.of_certificates.explain.Goals as goal
 

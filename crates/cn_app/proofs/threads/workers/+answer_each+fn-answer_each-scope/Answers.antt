@@ -60,7 +60,7 @@ returns-clause-worked g t c =
     (λ i. (sym c.in-Some.ensures.items i, sym c.push_reserved.ensures.items i, sym c.push_reserved-2.ensures.items i))
     (one_more_worked c.args.calls.now seats c.in_ok-seats.seats.items c.in_ok-seats.worked.items c.in-Some.seat c.in_ok-seats.seat c.in_ok-seats.last h.1.0.0 h.1.1.0.0 h.1.1.1.0
     (λ d got. let same : Some c.index-calls-len.result ≡ Some d = sym mine ∙ got in let is : c.index-calls-len.result ≡ d = cc in
-    subst (λ (v : Vec ℕ Global). HasWorked v.items c.in-Some.seat c.in_ok-seats.seat c.in_ok-seats.last.replies.items c.in_ok-seats.last.end) is h.1.1.1.1.1.0))
+    subst (λ (v : Vec ℕ Global). HasWorked v.items c.in-Some.seat c.in_ok-seats.seat c.in_ok-seats.last.replies.items c.in_ok-seats.last.fault) is h.1.1.1.1.1.0))
 
 pub returns-clause-asked : goal.returns-clause-asked
 returns-clause-asked g t c =

@@ -3,8 +3,7 @@ use Rattle.std.proofs.lemmas.List.{take_all, take_more}
 use Rattle.std.proofs.lemmas.List.Elements.{All-push}
 use Rattle.cn_log.specs.Opening.{Opening}
 use Rattle.cn_log.specs.declared.event.Reply.{Reply}
-use Rattle.cn_app.specs.Threads.Workers.{EndsAt, Ended, GateWasAsked, NoCall, Replied}
-use Rattle.cn_app.specs.declared.threads.workers.End.{End}
+use Rattle.cn_app.specs.Threads.Workers.{Ended, NoCall, Replied}
 use Rattle.cn_app.proofs.ThreadLemmas.Seats.{begins_left, ends_left, go_ended, one_more}
 use Rattle.cn_app.proofs.threads.workers.answer.Goals as goal
 
@@ -18,9 +17,8 @@ returns-in-Err-clause-worked g c =
       made = begins_left c.args.operations.now c.loop-operation.operation-index _ more c.loop-operation.seat c.call.new.seat h.same i.made c.in-Err.fault h.fault;
       replied = h.own ∙ i.own;
       range = subst (λ (o : Opening). All (λ (r : Reply). r.response.0 < length o.object.responses) c.loop-operation.replies.items) (sym h.same.2) i.range;
-      ended = subst (λ (e : End). EndsAt c.args.operations.now c.call.new.seat c.loop-operation.replies.items e) (sym c.by-end.ensures)
-          (ends_left c.args.operations.now c.loop-operation.operation-index _ more c.loop-operation.seat c.call.new.seat h.same i.made c.loop-operation-test.true
-          c.loop-operation.replies.items i.count c.in-Err.fault h.fault);
+      ended = ends_left c.args.operations.now c.loop-operation.operation-index _ more c.loop-operation.seat c.call.new.seat h.same i.made c.loop-operation-test.true
+          c.loop-operation.replies.items i.count c.in-Err.fault h.fault;
     }
 
 pub loop-operation-preserved : goal.loop-operation-preserved
@@ -45,7 +43,6 @@ pub returns-in-Err-clause-asked : goal.returns-in-Err-clause-asked
 returns-in-Err-clause-asked g c =
     let i = c.loop-operation.invariant in
     let h = c.in-Err.ensures in
-    subst (λ (e : End). GateWasAsked g.G.Gate.asks g.G.Gate.says c.args.seat c.args.gate c.call.new.seat e) (sym c.by-end.ensures)
     (c.call.new.gate, Ended _ c.in-Err.fault i.asked (record { same = h.same; comes = h.fault; asked = h.asked; said = h.said }), h.said ∙ go_ended c.in-Err.fault)
 
 pub returns-clause-asked : goal.returns-clause-asked

@@ -5,7 +5,6 @@ use Rattle.cn_hall.specs.Seats.{pending}
 use Rattle.cn_hall.specs.declared.call.Go.TheVariants.{On}
 use Rattle.cn_app.specs.Threads.Serving.{operations_called}
 use Rattle.cn_app.specs.Threads.Workers.{HasAsked}
-use Rattle.cn_app.specs.declared.threads.workers.End.TheVariants.{Whole}
 use Rattle.cn_app.proofs.threads.workers.answer.Given as goal
 
 abbrev pub invariant-loop-operation : goal.invariant-loop-operation
@@ -16,7 +15,7 @@ invariant-loop-operation g l = record {
   own : own l.seat ≡ l.replies.items;
   range : All (λ r. r.response.0 < length l.seat.core.opening.object.responses) l.replies.items;
   says : g.G.Gate.says l.gate ≡ On;
-  asked : HasAsked g.G.Gate.asks g.G.Gate.says l.fn.seat l.fn.gate l.seat l.gate Whole;
+  asked : HasAsked g.G.Gate.asks g.G.Gate.says l.fn.seat l.fn.gate l.seat l.gate None;
   count : length l.replies.items ≡ l.operation-index;
   room : length l.operations ≤ vec_capacity l.replies;
 }

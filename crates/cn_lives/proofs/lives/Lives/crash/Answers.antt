@@ -1,13 +1,9 @@
 use Rattle.std.proofs.Common.{arith, ◌++◌, ◌∷◌, [], sym, subst}
 use Rattle.std.proofs.lemmas.Grind.{common_steps}
-use Rattle.cn_crashes.specs.Execution.{after_crash}
-use Rattle.cn_crashes.specs.Execution.Event.{Crash}
 use Rattle.cn_lives.specs.Lives.{world_of}
-use Rattle.cn_lives.specs.Mirrors.{Mirrors, inputs_of, lives_protocol}
 use Rattle.cn_lives.specs.Runs.{AreLivesOf}
-use Rattle.cn_lives.specs.Steps.{World}
+use Rattle.cn_lives.specs.declared.schedule.Event.TheVariants.{Crash}
 use Rattle.cn_lives.proofs.Fitting.{fits, process_within}
-use Rattle.cn_lives.proofs.Mirroring.{mirrors_crash}
 use Rattle.cn_lives.proofs.Running.{lives_event}
 use Rattle.cn_lives.proofs.lives.Lives.crash.Goals as goal
 
@@ -30,15 +26,3 @@ returns-clause-of_plan c = λ events lives.
     (sym (returns-clause-world c))
     (lives_event c.args.plan.now events (world_of c.args.self.now) (Crash c.args.p)
     c.requires.process lives)
-
-pub returns-clause-protocol : goal.returns-clause-protocol
-returns-clause-protocol c = λ f d m.
-    (let p = c.args.plan.now in
-    let w = world_of c.args.self.now in
-    let laws = c.recording_plans_are_sound.ensures in
-    let lives = c.requires.of_plan in
-    let h = fits p laws.plan.is_plan laws.sound lives.0 w lives.1 in
-    subst (λ (u : World). Mirrors p f u
-    (after_crash (lives_protocol p) (inputs_of f w.inputs) d c.args.p))
-    (sym (returns-clause-world c))
-    (mirrors_crash p laws.plan.is_plan laws.sound f c.args.p w d c.requires.process h m))

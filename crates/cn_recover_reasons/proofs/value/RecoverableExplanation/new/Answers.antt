@@ -1,6 +1,7 @@
 use Rattle.std.proofs.Common.{◌≤◌, ℕ, sym, subst}
 use Rattle.cn_recover.specs.Recording.{IsRecording}
-use Rattle.cn_recover_reasons.proofs.Evidence.{limit_within, recording_at}
+use Rattle.cn_search.proofs.LimitLemmas.{limit_within}
+use Rattle.cn_recover_reasons.proofs.Evidence.{recording_at}
 use Rattle.cn_recover_reasons.proofs.value.RecoverableExplanation.new.Goals as goal
 
 pub witness_for-requires-clause-recording : goal.witness_for-requires-clause-recording

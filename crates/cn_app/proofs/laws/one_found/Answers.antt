@@ -1,5 +1,0 @@
-use Rattle.cn_app.proofs.LawLemmas.OneOutput as output
-use Rattle.cn_app.proofs.laws.one_found.Goals as goal
-
-pub returns : goal.returns
-returns c = output.one_found c.one_finding.ensures

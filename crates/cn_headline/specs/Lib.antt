@@ -1,0 +1,2 @@
+pub mod ConsensusNumber
+pub mod Headline

@@ -1,0 +1,4 @@
+pub mod Executions
+pub mod Mirroring
+pub mod Reaching
+pub mod Rightness

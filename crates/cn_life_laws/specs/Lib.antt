@@ -1,0 +1,3 @@
+pub mod Consensus
+pub mod Executions
+pub mod Mirrors

@@ -1,0 +1,670 @@
+// The page's logic that needs no browser: node --test tests/page/units.js
+const assert = require('node:assert/strict');
+const fs = require('node:fs');
+const path = require('node:path');
+const { describe, it } = require('node:test');
+const vm = require('node:vm');
+
+const WEB = path.join(__dirname, '../../web');
+const PARTS = ['texts_en', 'texts_de', 'texts', 'elements', 'answers', 'run', 'lives', 'link', 'table_text', 'table_edits', 'flaw_places', 'notes'];
+PARTS.push('past', 'example_search', 'comparison', 'schedules', 'space_time', 'tournament', 'dot', 'points', 'layout', 'explanation');
+
+globalThis.Cnum = {};
+for (const part of ['examples', ...PARTS.map(it => `page/${it}`)]) {
+    vm.runInThisContext(fs.readFileSync(path.join(WEB, `${part}.js`), 'utf8'), part);
+}
+const { Cnum } = globalThis;
+const { run } = Cnum;
+const step = run.stepOf;
+const stop = process => ({ process, does: run.STOP });
+const crash = process => ({ process, does: run.CRASH });
+
+describe('links', () => {
+    const RUN = [step(1), stop(0)];
+    const SHOWN = { text: 'name = "größe" # →\n', limit: 3, inputs: ['7', '18446744073709551615'], acts: RUN, view: 'run' };
+
+    it('hold a table, a limit, a run and a view', async () => {
+        const { text, limit, inputs, acts, view } = await Cnum.linkedBy(await Cnum.linkOf(SHOWN));
+        assert.deepEqual({ text, limit, inputs, acts, view }, SHOWN);
+    });
+
+    it('name an example', async () => {
+        const link = await Cnum.linkOf({ ...SHOWN, example: 'types/idle', view: undefined });
+        assert.equal(link, '#example=types/idle&limit=3&inputs=7,18446744073709551615&run=1,x0');
+        assert.equal((await Cnum.linkedBy(link)).example, 'types/idle');
+    });
+
+    it('hold crashes, if processes come back', async () => {
+        const acts = [step(1), crash(1), stop(0), step(1)];
+        const link = await Cnum.linkOf({ example: 'types/idle', limit: null, comeBack: true, inputs: ['7', '8'], acts });
+        assert.equal(link, '#example=types/idle&crashes=yes&inputs=7,8&run=1,c1,x0,1');
+        assert.deepEqual(await Cnum.linkedBy(link), { example: 'types/idle', comeBack: true, inputs: ['7', '8'], acts });
+        assert.equal((await Cnum.linkedBy('#crashes=yes')).comeBack, true);
+        assert.equal((await Cnum.linkedBy('#run=0')).comeBack, undefined);
+    });
+
+    it('have a limit only if one was chosen', async () => {
+        assert.equal(await Cnum.linkOf({ example: 'types/idle', limit: null, inputs: [], acts: [] }), '#example=types/idle');
+        assert.equal((await Cnum.linkedBy('#example=types/idle&limit=4')).limit, 4);
+    });
+
+    it('of older pages, without a checksum, are read', async () => {
+        // The letters of 'name = "tas"\n', packed by DEFLATE alone.
+        assert.equal((await Cnum.linkedBy('#table=y0vMTVWwVVAqSSxW4gIA')).text, 'name = "tas"\n');
+    });
+
+    it('are refused at each place where a letter is missing or another', async () => {
+        const whole = await Cnum.linkOf({ ...SHOWN, inputs: [], acts: [], view: undefined });
+        const [before, letters, rest] = /^(#table=)([^&]*)(.*)$/.exec(whole).slice(1);
+        for (let at = 0; at < letters.length; at++) {
+            assert.ok((await Cnum.linkedBy(before + letters.slice(0, at) + rest)).fault, `cut at ${at}`);
+            const other = letters[at] === 'A' ? 'Q' : 'A';
+            const changed = await Cnum.linkedBy(before + letters.slice(0, at) + other + letters.slice(at + 1) + rest);
+            assert.ok(changed.fault || changed.text === SHOWN.text, `another letter at ${at}`);
+        }
+    });
+
+    const REFUSED = [
+        ['#limit=99', 'its limit is “99”, and must be from 2 to 8.'],
+        ['#limit=1', 'its limit is “1”, and must be from 2 to 8.'],
+        ['#example=nosuch', 'there is no example “nosuch”.'],
+        ['#table=%%%', 'its table is damaged. A part of the link may be missing.'],
+        ['#run=0,8', 'its run has the step “8”, which no process takes.'],
+        ['#crashes=yes&run=0,cc1', 'its run has the step “cc1”, which no process takes.'],
+        ['#run=0,c1', 'its run has the crash “c1”, and it does not say “crashes=yes”.'],
+        ['#crashes=no', 'it says “crashes=no”, and the page knows only “crashes=yes”.'],
+        ['#inputs=1,abc', 'a process proposes “abc” in it, and that is no number.'],
+        ['#inputs=1,', 'a process proposes “” in it, and that is no number.'],
+        ['#inputs=18446744073709551616', 'a process proposes “18446744073709551616” in it, and that is no number.'],
+        ['#view=all', 'it shows the part “all” alone, and the page has number, why, states, run and pairs.'],
+        ['#exmaple=types/idle', 'it says “exmaple”, which the page does not know.'],
+        ['#example=types/idle&table=AAAA', 'it names both an example and a table.'],
+    ];
+    for (const [link, fault] of REFUSED) it(`refuses ${link}`, async () => assert.deepEqual(await Cnum.linkedBy(link), { fault }));
+});
+
+describe('a run', () => {
+    const PLAN = { nodes: 1, processes: 2, start: 'zero' };
+    const ACTS = [step(0), step(1), step(1), step(1), step(1), step(1), stop(1), step(0), stop(0), step(0)];
+    const STEPS = [
+        { action: 'write', node: 0, process: 0, team: 'A', value: 10 },
+        { action: 'write', node: 0, process: 1, team: 'B', value: 20 },
+        { action: 'apply', node: 0, operation: 'tas', process: 1, response: 'zero' },
+        { action: 'read', judged: 'B', node: 0, process: 1, state: 'one' },
+        { action: 'decide', process: 1, value: 20 },
+        { action: 'none', process: 1 },
+        { action: 'apply', node: 0, operation: 'tas', process: 0, response: 'one' },
+    ];
+    const TABLE = Cnum.examples[0].types[0].text;
+    const events = run.withStates(run.eventsOf(run.withoutStopped(ACTS), STEPS), PLAN, run.movesOf(TABLE));
+
+    it('has no act of a process that has decided or stopped', () => {
+        const kinds = ['writes', 'writes', 'applies', 'reads', 'decides', 'applies', 'stops'];
+        assert.deepEqual(events.map(it => it.kind), kinds);
+        assert.deepEqual([events[3].team, events[4].value], ['B', '20']);
+    });
+
+    it('has the state before and after each operation', () => {
+        assert.deepEqual(events.filter(it => it.kind === 'applies').map(it => [it.before, it.after]), [['zero', 'one'], ['one', 'one']]);
+    });
+
+    it('tells what holds after it', () => {
+        const { nodes, processes } = run.after(events, PLAN);
+        assert.deepEqual([nodes[0].state, nodes[0].A, nodes[0].B], ['one', '10', '20']);
+        const first = { steps: 2, decision: null, crashes: 0, hasStopped: true };
+        assert.deepEqual(processes, [first, { steps: 4, decision: '20', crashes: 0, hasStopped: false }]);
+        assert.deepEqual(run.active(processes), []);
+        assert.deepEqual(run.active(run.after(events.slice(0, 5), PLAN).processes), [0]);
+    });
+
+    it('has a place for each act, none on another', () => {
+        const { marks, lines } = Cnum.placeRun(events, ['10', '20'], text => 8 * text.length);
+        assert.deepEqual(marks.map(it => it.y), [44, 122, 122, 122, 122, 44, 44]);
+        for (let at = 1; at < marks.length; at++) {
+            const widths = [marks[at - 1], marks[at]].map(it => 4 * Math.max(...it.texts.map(text => text.length)));
+            assert.ok(marks[at].x - marks[at - 1].x >= widths[0] + widths[1], `place ${at}`);
+        }
+        assert.deepEqual(lines.map(it => it.to), [marks[6].x, marks[4].x]);
+    });
+});
+
+describe('processes that come back', () => {
+    const write = (process, node, team, value) => ({ action: 'write', node, process, team, value });
+    const look = (process, node, state) => ({ action: 'read', judged: null, node, process, state });
+    const take = (process, node, team, value) => ({ action: 'take', node, process, team, value });
+    const apply = (process, node, operation, response) => ({ action: 'apply', node, operation, process, response });
+    const read = (process, node, state, judged) => ({ action: 'read', judged, node, process, state });
+    const decide = (process, value) => ({ action: 'decide', process, value });
+    // What each of three processes does alone at a sticky bit.
+    const second = [write(1, 1, 'A', 20), look(1, 1, 'unset'), take(1, 1, 'B', null), apply(1, 1, 'put0', 'zero'), read(1, 1, 'zero', 'A'), take(1, 1, 'A', 20)];
+    const third = [write(2, 1, 'B', 30), look(2, 1, 'unset'), apply(2, 1, 'put1', 'one'), read(2, 1, 'one', 'B'), take(2, 1, 'B', 30)];
+    const atRoot = (process, value) => [write(process, 0, 'B', value), look(process, 0, 'unset'), apply(process, 0, 'put1', 'one'), read(process, 0, 'one', 'B'), decide(process, value)];
+    const first = [write(0, 0, 'A', 10), look(0, 0, 'unset'), take(0, 0, 'B', null), apply(0, 0, 'put0', 'zero'), read(0, 0, 'zero', 'A'), decide(0, 10)];
+    const PLAN = Cnum.lives.planOf([first, [...second, ...atRoot(1, 20)], [...third, ...atRoot(2, 30), { action: 'none', process: 2 }]]);
+
+    it('have the plan by which each does its steps alone', () => {
+        const roles = [{ operation: 'put0', team: 'A' }, { operation: 'put1', team: 'B' }];
+        const [a, b] = [{ team: 'A', role: 0 }, { team: 'B', role: 1 }];
+        const paths = [[{ node: 0, ...a }], [{ node: 1, ...a }, { node: 0, ...b }], [{ node: 1, ...b }, { node: 0, ...b }]];
+        assert.deepEqual(PLAN, { comeBack: true, nodes: 2, paths, processes: 3, roles, start: 'unset' });
+        assert.deepEqual([run.mostSteps(PLAN), run.mostSteps({ processes: 3 })], [12, 8]);
+        const ofB = [write(1, 0, 'B', 20), look(1, 0, 'unset'), apply(1, 0, 'put0', 'zero'), read(1, 0, 'zero', 'B'), decide(1, 20)];
+        const both = [{ operation: 'put0', team: 'A' }, { operation: 'put0', team: 'B' }];
+        assert.deepEqual(Cnum.lives.planOf([first, ofB]).roles, both);
+    });
+
+    const ACTS = [...Array(5).fill(step(2)), step(2), crash(2), step(2), step(0), stop(0), crash(1), crash(0)];
+    const STEPS = [...third, write(2, 0, 'B', 30), { action: 'crash', process: 2 }, write(2, 1, 'B', 30), write(0, 0, 'A', 10), { action: 'crash', process: 1 }];
+    const INPUTS = ['10', '20', '30'];
+    const eventsOf = (acts, steps) => Cnum.lives.withForgotten(run.withStates(run.eventsOf(run.withoutStopped(acts), steps), PLAN, () => 'one'), INPUTS);
+    const events = eventsOf(ACTS, STEPS);
+
+    it('crash in the schedule, and stop beside it', () => {
+        assert.equal(run.scheduleOf(run.withoutStopped(ACTS)), '2,2,2,2,2,2,c2,2,0,c1');
+        assert.equal(run.scheduleOf([stop(0)]), 'none');
+        const kinds = ['writes', 'looks', 'applies', 'reads', 'takes', 'writes', 'crashes', 'writes', 'writes', 'stops', 'crashes'];
+        assert.deepEqual(events.map(it => it.kind), kinds);
+        assert.deepEqual(run.eventsOf([step(0)], [take(0, 0, 'B', null)]), [{ ...step(0), kind: 'misses', node: 0, team: 'B' }]);
+    });
+
+    it('forget their place and their value, and objects and registers keep what they have', () => {
+        assert.deepEqual(events[6].forgot, { place: 1, value: '30', last: events[5], decision: null });
+        assert.deepEqual(events[10].forgot, { place: 0, value: '20', last: null, decision: null });
+        assert.deepEqual(Cnum.lives.memoryAfter(events, 2, '30'), { place: 0, value: '30', last: events[7], decision: null });
+        assert.equal(Cnum.lives.forgottenBy(events, 2), events[6].forgot);
+        assert.equal(Cnum.lives.forgottenBy(events, 0), null);
+        const { nodes, processes } = run.after(events, PLAN);
+        assert.deepEqual(nodes.map(it => [it.state, it.A, it.B]), [['unset', '10', '30'], ['one', '', '30']]);
+        assert.deepEqual(processes.map(it => [it.steps, it.crashes, it.hasStopped]), [[1, 0, true], [0, 1, false], [1, 1, false]]);
+    });
+
+    it('have words for each action of the schema', () => {
+        const { oneOf } = JSON.parse(fs.readFileSync(path.join(WEB, '../docs/schema/life_course.json'), 'utf8')).definitions.step;
+        const actions = oneOf.map(it => it.properties.action.const);
+        const kinds = actions.map(action => run.eventsOf([step(0)], [{ action, process: 0, node: 0, team: 'A', value: 1 }])[0].kind);
+        assert.deepEqual(kinds.filter(it => it !== 'rests' && !(`log_${it}` in Cnum.texts)), []);
+        assert.ok(actions.includes('crash') && kinds.includes('rests'));
+    });
+
+    it('forget their decision too, and go on', () => {
+        const acts = [...Array(8).fill(step(0)), crash(0), step(0), crash(0)];
+        const [none, crashed] = ['none', 'crash'].map(action => ({ action, process: 0 }));
+        const twice = eventsOf(acts, [...first, none, none, crashed, first[0], crashed]);
+        assert.deepEqual(twice[8].forgot, { place: 0, value: '10', last: twice[7], decision: null });
+        assert.deepEqual(Cnum.lives.memoryAfter(twice, 0, '10'), { place: 0, value: '10', last: null, decision: null });
+        const told = twice.slice(0, 8);
+        assert.deepEqual(told.slice(5).map(it => it.kind), ['decides', 'crashes', 'writes']);
+        assert.equal(told[6].forgot.decision, '10');
+        assert.deepEqual(run.active(run.after(told.slice(0, 6), PLAN).processes), [1, 2]);
+        assert.deepEqual(run.active(run.after(told, PLAN).processes), [0, 1, 2]);
+        const { marks, lines } = Cnum.placeRun(told, INPUTS, text => 8 * text.length);
+        assert.deepEqual(marks.slice(5).map(it => it.texts), [['decides 10', ''], ['crashes', 'forgets 10'], ['writes 10', 'A of node 0']]);
+        assert.ok(lines[0].to > marks[7].x);
+        assert.equal(Cnum.placeRun(events, INPUTS, text => 8 * text.length).marks[6].texts[1], 'forgets its place');
+    });
+});
+
+describe('an adversary', () => {
+    // Runs of processes that take so many steps each, and decide the value that `decide` gives.
+    const runOf = (counts, decide) => schedule => {
+        const taken = counts.map(() => 0);
+        const events = [];
+        for (const act of schedule) {
+            if (act.does === run.CRASH) taken[act.process] = 0;
+            else if (taken[act.process]++ >= counts[act.process]) continue;
+            const hasDecided = act.does === run.STEP && taken[act.process] === counts[act.process];
+            const kind = act.does === run.CRASH ? 'crashes' : hasDecided ? 'decides' : 'writes';
+            events.push({ ...act, kind, ...(hasDecided && { value: decide(events, act.process) }) });
+        }
+        return { events, inputs: counts.map((_, process) => String(process)) };
+    };
+    const always = () => '0';
+    const tried = (counts, decide, more) => Cnum.tryToBreak({ processes: counts.length, ...more }, async it => runOf(counts, decide)(it), () => {});
+
+    it('tries each schedule of two processes once', async () => {
+        const seen = new Set();
+        const made4 = runOf([4, 4], always);
+        const found = await Cnum.tryToBreak({ processes: 2 }, async schedule => {
+            const made = made4(schedule);
+            seen.add(made.events.map(it => it.process).join(''));
+            return made;
+        }, () => {});
+        assert.deepEqual([found.count, seen.size, found.broken], [70, 70, null]); // 8 over 4
+        assert.equal(found.worst.events.map(it => it.process).join(''), '01010101');
+    });
+
+    it('tries those of processes with different numbers of steps', async () => {
+        assert.equal((await tried([2, 4], always)).count, 15); // 6 over 2
+    });
+
+    it('tries those of three processes up to a bound', async () => {
+        // 3 ** 5 first steps but one, in which a process of 4 steps would take 5. In 10 of them it has decided.
+        assert.equal((await tried([4, 8, 8], always)).count, 10 * 2 + 232 * 6);
+    });
+
+    // How many words there are of so many acts of processes that take so many steps in a life, with at most so many crashes; the
+    // processes that have not decided then go on in any order.
+    function words(counts, acts, crashes, taken = counts.map(() => 0)) {
+        const going = counts.map((_, process) => process).filter(it => taken[it] < counts[it]);
+        if (!acts) return [1, 1, 2, 6][going.length];
+        const having = (process, steps) => taken.map((it, index) => (index === process ? steps : it));
+        const stepped = going.map(it => words(counts, acts - 1, crashes, having(it, taken[it] + 1)));
+        const begun = counts.map((_, process) => process).filter(it => crashes && taken[it]);
+        return [...stepped, ...begun.map(it => words(counts, acts - 1, crashes - 1, having(it, 0)))].reduce((sum, it) => sum + it, 0);
+    }
+
+    it('tries schedules of processes that come back up to a bound', async () => {
+        assert.equal(words([4, 4], 8, 0), 70);
+        assert.equal((await tried([5, 6], always, { comeBack: true })).count, words([5, 6], 7, 2));
+        assert.equal((await tried([2, 3, 5], always, { comeBack: true })).count, words([2, 3, 5], 4, 1));
+    });
+
+    it('lets processes crash at random', async () => {
+        const { count, worst, broken } = await tried([9, 9, 18, 18], always, { comeBack: true });
+        assert.deepEqual([count, broken], [500, null]);
+        assert.ok(worst.events.filter(it => it.kind === 'crashes').length > 1);
+        assert.ok((await tried([9, 9, 18, 18], always)).worst.events.every(it => it.kind !== 'crashes'));
+    });
+
+    // Two processes at a test-and-set bit: each writes, applies, and decides its own value if it was first.
+    function atBit(schedule) {
+        const [taken, won] = [[0, 0], []];
+        let isSet = false;
+        const events = schedule.flatMap(({ process, does }) => {
+            if (does === run.STEP && taken[process] === 3) return [];
+            taken[process] = does === run.CRASH ? 0 : taken[process] + 1;
+            if (taken[process] === 2) [won[process], isSet] = [!isSet, true];
+            const kind = does === run.CRASH ? 'crashes' : taken[process] === 3 ? 'decides' : 'writes';
+            return [{ process, does, kind, value: String(won[process] ? process : 1 - process) }];
+        });
+        return { events, inputs: ['0', '1'] };
+    }
+
+    it('finds the crash that breaks the agreement by a test-and-set bit', async () => {
+        const by = async plan => (await Cnum.tryToBreak(plan, async it => atBit(it), () => {})).broken;
+        assert.equal(await by({ processes: 2 }), null);
+        const { events } = await by({ processes: 2, comeBack: true });
+        assert.deepEqual(events.filter(it => it.kind === 'crashes').length, 1);
+        assert.equal(new Set(events.filter(it => it.kind === 'decides').map(it => it.value)).size, 2);
+    });
+
+    it('tries more processes at random', async () => assert.equal((await tried([4, 8, 12, 12], always)).count, 500));
+
+    it('finds a schedule in which the processes do not agree', async () => {
+        const first = events => String(events[0].process);
+        assert.equal((await tried([4, 4], first)).broken, null);
+        const split = (events, process) => (events[2].process === 1 ? String(process) : '0');
+        assert.equal((await tried([4, 4], split)).broken.events[2].process, 1);
+        assert.ok((await tried([4, 4], () => '7')).broken, 'a value that nobody proposed');
+        assert.ok((await tried([4, 5], always)).broken, 'a process that takes too many steps');
+    });
+});
+
+describe('undo', () => {
+    it('goes back over each change, and forward again', () => {
+        const past = new Cnum.Past();
+        for (const text of ['a', 'b', 'b', 'c']) past.put(text);
+        assert.deepEqual([past.move(-1), past.move(-1), past.canMove(-1), past.move(1)], ['b', 'a', false, 'b']);
+        past.put('d');
+        assert.deepEqual([past.canMove(1), past.move(-1), past.move(-1)], [false, 'b', 'a']);
+    });
+
+    it('takes letters without a pause as one change', () => {
+        const past = new Cnum.Past();
+        past.put('');
+        const typed = [['n', 0], ['na', 500], ['nam', 900], ['name', 2500], ['name ', 2600]];
+        for (const [text, now] of typed) past.put(text, { isTyped: true, now });
+        assert.deepEqual([past.move(-1), past.move(-1)], ['nam', '']);
+    });
+
+    it('begins a change after another one is undone', () => {
+        const past = new Cnum.Past();
+        past.put('');
+        past.put('a', { isTyped: true, now: 0 });
+        past.move(-1);
+        past.put('b', { isTyped: true, now: 10 });
+        assert.equal(past.move(-1), '');
+    });
+
+    it('leads the cursor to the place of the change', () => assert.equal(Cnum.endOfChange('one three', 'one two three'), 3));
+});
+
+describe('the search over examples', () => {
+    const index = Cnum.exampleIndex();
+    const names = (query, isOfNumber) => Cnum.foundExamples(index, query, isOfNumber).map(it => it.name);
+
+    it('finds names, words of the literature and groups', () => {
+        assert.ok(names('Compare and swap').includes('cas_3'));
+        assert.ok(names('compare-and-swap 3').includes('cas_3'));
+        assert.equal(names('queue 2')[0], 'queue_2');
+        assert.ok(names('loui abu-amara').length > 0);
+        assert.deepEqual(names('nosuchword'), []);
+        assert.equal(names('').length, index.length);
+    });
+
+    it('finds those of a number', () => assert.deepEqual(names('bit', path => path === 'types/sticky_bit'), ['sticky_bit']));
+
+    it('orders the numbers', () => {
+        const kinds = Cnum.kindsOf([2, 'infinite', { from: 9, to: 16 }, 10, 2]);
+        assert.deepEqual(kinds, ['2', '9 to 16', '10', 'infinite']);
+    });
+});
+
+describe('edits of a table', () => {
+    const TABLE = Cnum.examples[0].types.find(it => it.path === 'types/three_shot').text;
+    const { edits } = Cnum;
+    const edit = (name, ...words) => edits[name](new Cnum.TableText(TABLE), ...words);
+
+    it('leave what led to a state that is removed', () => {
+        const table = new Cnum.TableText(edit('removeState', 5)); // dead
+        assert.deepEqual(table.items('states').map(it => it.text), ['bot', 'a1', 'a2', 'b1', 'b2']);
+        assert.deepEqual(table.operations[0].next.map(it => it.text), ['a1', 'a2', 'dead', 'b2', 'dead']);
+    });
+
+    it('leave the entries of a response that is removed', () => {
+        const table = new Cnum.TableText(edit('removeResponse', 2)); // none
+        assert.equal(table.operations[0].response[5].text, 'none');
+        assert.deepEqual(table.items('responses').map(it => it.text), ['a', 'b']);
+    });
+
+    it('rename a state everywhere', () => {
+        const text = edit('rename', 'states', 0, 'new');
+        assert.ok(!text.includes('"bot"') && text.includes('states = ["new", '));
+    });
+
+    it('keep remarks and order', () => {
+        const text = `# about\n${TABLE}# end\n`;
+        assert.equal(edits.removeState(new Cnum.TableText(edits.addState(new Cnum.TableText(text))), 6), text);
+    });
+});
+
+describe('comparisons', () => {
+    const SLOT = Cnum.FIRST_TABLE.replace('["s0", "s1"]', '["a", "b"]').replace('["s1", "s1"]', '["b", "b"]');
+
+    it('tell the cells that differ', () => {
+        const other = SLOT.replace('["b", "b"]', '["b", "a"]');
+        assert.deepEqual(Cnum.differences(SLOT, SLOT), []);
+        assert.deepEqual(Cnum.differences(SLOT, other), [{ operation: 'op0', state: 'b', first: 'ok → b', second: 'ok → a' }]);
+    });
+
+    it('tell the cells that one table lacks', () => {
+        const more = Cnum.edits.addOperation(new Cnum.TableText(SLOT));
+        assert.deepEqual(Cnum.differences(more, SLOT).map(it => [it.operation, it.state, it.first, it.second]), [
+            ['op1', 'a', 'ok → a', null],
+            ['op1', 'b', 'ok → b', null],
+        ]);
+        assert.deepEqual(Cnum.withoutEach(more).map(it => it.operation), ['op0', 'op1']);
+        assert.equal(Cnum.withoutEach(more)[1].text, SLOT);
+        assert.deepEqual(Cnum.withoutEach(SLOT), []);
+        const alone = [{ number: 1, operations: ['op0'] }, { number: 2, operations: ['op1'] }];
+        const pairs = Cnum.pairsOf(more, { alone, pairs: [{ number: 'infinite', operations: ['op0', 'op1'] }] });
+        assert.deepEqual(pairs.map(it => [it.row, it.column, it.number]), [[0, 0, '1'], [1, 1, '2'], [1, 0, 'infinite']]);
+        assert.deepEqual([pairs[0].text, pairs[2].text], [SLOT, more]);
+    });
+});
+
+describe('places of flaws', () => {
+    const text = 'name = "Tas"\nstates = ["a", "b"]\nresponses = ["r"]\ncolor = 1\n[[operation]]\nname = "o"\nresponse = ["r", "r"]\nnext = ["a", "c"]\n';
+    const marked = (kind, path, more) => Cnum.placesOf([{ kind, path, ...more }], text).map(it => it && text.slice(it.from, it.to))[0];
+
+    it('are those of the text, by their paths', () => {
+        assert.equal(marked('UnknownName', ['operation', 0, 'next', 1]), '"c"');
+        assert.equal(marked('RowLength', ['operation', 0, 'next']), '["a", "c"]');
+        assert.equal(marked('BadName', ['name']), '"Tas"');
+        assert.equal(marked('BadName', ['states', 1]), '"b"');
+        assert.equal(marked('Count', ['responses']), '["r"]');
+        assert.equal(marked('UnknownKey', ['color']), 'color');
+        assert.equal(marked('WrongKind', ['color']), '1');
+        assert.equal(marked('MissingKey', ['operation', 0]), '[[operation]]');
+    });
+
+    it('are those of lines and columns', () => assert.equal(marked('NotToml', [], { line: 2, column: 1 }), 's'));
+
+    it('are none, if a key is missing in the whole or nothing stands there', () => {
+        assert.equal(marked('MissingKey', []), null);
+        assert.equal(marked('UnknownName', ['operation', 3, 'next', 1]), null);
+        assert.equal(marked('UnknownName', ['name', 'next', 1]), null);
+    });
+});
+
+describe('notes on a table', () => {
+    const LOOP = { name: 'nop', response: ['ok', 'ok'], next: ['s0', 's1'] };
+
+    it('tell what is never reached and what changes nothing', () => {
+        const text = Cnum.FIRST_TABLE.replace('"op0"', `"${LOOP.name}"`).replace('next = ["s1", "s1"]', 'next = ["s0", "s1"]');
+        assert.deepEqual(Cnum.notesOf(text), ['State s1 cannot be reached from s0.', 'Operation nop changes nothing.']);
+        assert.deepEqual(Cnum.notesOf(Cnum.FIRST_TABLE), []);
+    });
+});
+
+describe('answers', () => {
+    it('have numbers of any length', () => {
+        const text = '{"a":[18446744073709551615,7],"b":"12345678901234567890"}';
+        assert.deepEqual(Cnum.exactValueOf(text), { a: ['18446744073709551615', 7], b: '12345678901234567890' });
+    });
+
+    it('stand one in a line', () => assert.deepEqual(Cnum.valuesOf('{"a":1}\n{"a":2}\n'), [{ a: 1 }, { a: 2 }]));
+
+    it('have numbers in words', () => {
+        const numbers = [3, 'infinite', { from: 9, to: 12 }, { at_least: 4 }];
+        assert.deepEqual(numbers.map(Cnum.numberText), ['3', 'infinite', '9 to 12', 'at least 4']);
+        assert.deepEqual(numbers.map(Cnum.leastOf), [3, Infinity, 9, 4]);
+        assert.deepEqual(numbers.map(Cnum.mostOf), [3, Infinity, 12, Infinity]);
+    });
+
+    const FAULTS = [
+        ['cnum: table: 8 RowLength', 'A row does not have one entry for each state.'],
+        ['cnum: check: 6 NotNext 8', 'Its collision 8 is not for the choice whose turn it is.'],
+        ['cnum: check: 4 WitnessMeets 0', 'Its witness is none: process 0 can get the same response and read the same state after either team was first.'],
+        ['cnum: certificate: too long', 'It is longer than any certificate.'],
+        ['cnum: certificate: no witness', 'It has no witness: one process alone has nobody to agree with.'],
+        ['cnum: argument: SCHEDULE', 'The run has more steps than the program takes.'],
+        ['cnum: -: out of memory', 'The memory is not enough.'],
+        ['cnum: cannot write', 'The program ended with a fault.'],
+    ];
+    for (const [line, sentence] of FAULTS) {
+        it(`tell in words: ${line}`, () => assert.equal(Cnum.inWords({ status: 1, stderr: `${line}\n` }), `${sentence} (${line})`));
+    }
+
+    it('tell a fault that is a value', () => {
+        const told = Cnum.inWords({ status: 1, stderr: 'cnum: check: 7 NotACollision 3\n' }, { entry: 3, name: 'NotACollision', number: 7 });
+        assert.equal(told, 'Its collision 3 is none. (cnum: check: 7 NotACollision 3)');
+    });
+
+    it('have a sentence for each flaw and each fault of a certificate', () => {
+        const namesIn = schema => (schema && typeof schema === 'object' ? Object.entries(schema).flatMap(namesUnder) : []);
+        const namesUnder = ([key, value]) => (['kind', 'name'].includes(key) ? value.enum || [value.const] : namesIn(value));
+        const names = ['flaws', 'verdict'].flatMap(it => namesIn(JSON.parse(fs.readFileSync(path.join(WEB, `../docs/schema/${it}.json`), 'utf8'))));
+        assert.ok(names.length > 20);
+        assert.deepEqual(names.filter(it => !(`fault_${it}` in Cnum.texts)), []);
+    });
+
+    it('tell a run that failed', () => {
+        assert.equal(Cnum.inWords({ status: null, stderr: 'unreachable' }), 'The run of the program failed. (unreachable)');
+    });
+});
+
+describe('a picture in DOT', () => {
+    const DOT = 'digraph "t" {\n  "a";\n  "b";\n  "a" -> "b" [label="x/r\\ly/s\\l"];\n  "b" -> "b" [label="x/s\\l"];\n}\n';
+    const graph = Cnum.graphOf(DOT);
+
+    it('is read', () => {
+        const x = text => ({ text, operation: 'x' });
+        const arrows = [{ from: 0, to: 1, lines: [x('x/r'), { text: 'y/s', operation: 'y' }] }, { from: 1, to: 1, lines: [x('x/s')] }];
+        assert.deepEqual(graph, { names: ['a', 'b'], arrows });
+    });
+
+    it('is shown with some operations alone', () => {
+        assert.deepEqual(Cnum.operationsOf(graph), ['x', 'y']);
+        const { names, arrows } = Cnum.graphWith(graph, it => it === 'y');
+        assert.deepEqual([names, arrows.map(it => it.lines.map(one => one.text))], [['a', 'b'], [['y/s']]]);
+    });
+});
+
+// Elements as far as an explanation needs them: their texts, in order.
+class FakeElement {
+    constructor(name) {
+        Object.assign(this, { name, parts: [] });
+    }
+
+    append(...parts) {
+        this.parts.push(...parts);
+    }
+
+    replaceChildren(...parts) {
+        this.parts = parts;
+    }
+
+    setAttribute() {}
+
+    addEventListener() {}
+
+    get children() {
+        return this.parts;
+    }
+
+    set textContent(text) {
+        this.parts = [text];
+    }
+
+    get textContent() {
+        return this.parts.map(it => (typeof it === 'string' ? it : it.hidden ? '' : it.textContent)).join(' ');
+    }
+}
+
+describe('an explanation', () => {
+    const pair = (response, state) => ({ response, state });
+    const step = (process, operation, response, state) => ({ operation, process, response, state });
+    const of = (team, a, b) => ({ a_first: [a], b_first: [b], operation: 'tas', team });
+    const NUMBER_2 = {
+        apart: [],
+        collisions: [{
+            a_first: { pair: pair('one', 'one'), steps: [step(0, 'tas', 'zero', 'one'), step(1, 'tas', 'one', 'one')] },
+            b_first: { pair: pair('one', 'one'), steps: [step(2, 'tas', 'zero', 'one'), step(1, 'tas', 'one', 'one')] },
+            process: 1,
+            processes: [{ operation: 'tas', team: 'A' }, { operation: 'tas', team: 'B' }, { operation: 'tas', team: 'B' }],
+            start: 'zero',
+        }],
+        lasting: null, limit: 8, more: 0, name: 'test_and_set', number: 2, rule: 'two_states', version: 2,
+        witness: { processes: [of('A', pair('zero', 'one'), pair('one', 'one')), of('B', pair('one', 'one'), pair('zero', 'one'))], start: 'zero' },
+    };
+    const NUMBER_1 = { ...NUMBER_2, collisions: [], number: 1, rule: 'hidden_operations', witness: null };
+    const lasting = { many: 'put0', many_states: ['unset', 'zero'], single: 'put1', single_states: ['one'], start: 'unset' };
+    const alike = { ...of('B', pair('one', 'one'), pair('zero', 'zero')), operation: 'put1' };
+    const eight = { processes: [{ ...alike, team: 'A', operation: 'put0' }, ...Array(7).fill(alike)], start: 'unset' };
+    const INFINITE = { ...NUMBER_2, apart: [['put0', 'put1']], collisions: [], lasting, number: 'infinite', rule: null, witness: eight };
+
+    function shown(value, language = 'en') {
+        globalThis.document = { createElement: name => new FakeElement(name) };
+        Cnum.useLanguage(language);
+        const place = new FakeElement('div');
+        Cnum.showExplanation(place, value, { all: async () => value, printed: async () => '' });
+        Cnum.useLanguage('en');
+        return place.textContent.replace(/\s+/g, ' ');
+    }
+
+    const has = (text, ...parts) => parts.forEach(it => assert.ok(text.includes(it), `${it} in ${text}`));
+
+    it('of a number has a witness and collisions', () => {
+        has(shown(NUMBER_2), 'Why 2: ', 'It starts in zero; A: p0 does tas; B: p1 does tas.', 'got zero, reads one', 'at most 2', 'Why not 3: 1 way ');
+        has(shown(NUMBER_2), 'Start zero; A: p0 does tas; B: p1 and p2 do tas.', 'p1 cannot tell', 'B first zero p2 tas', 'p1 got one, reads one');
+        has(shown(NUMBER_2), 'No protocol at all does it for 3: this is proved.');
+        has(shown(NUMBER_2, 'de'), 'Warum 2: ', 'p1 kann es nicht sagen', 'p1 und p2 machen tas', 'Kein Protokoll');
+    });
+
+    it('of more ways has a button for the rest', () => has(shown({ ...NUMBER_2, more: 150 }), 'Why not 3: 151 ways ', 'Show 100 more of 151'));
+
+    it('of the number 1 has no witness', () => {
+        has(shown(NUMBER_1), 'One process alone', 'one tells nothing of the other', 'Why not 2: no way ', 'for 2: this is proved');
+    });
+
+    it('of no greatest number has two operations that last', () => {
+        const text = shown(INFINITE);
+        has(text, 'Why any number: from state unset, one process does put1', 'put0, or no step yet unset, zero', 'For 8 processes, say:');
+        has(text, 'p1 to p7', 'B: p1 to p7 do put1', 'put0 with put1', 'for each number of processes');
+    });
+
+    it('of a number beyond the limit tells no ways', () => {
+        const text = shown({ ...INFINITE, lasting: null, number: { from: 9, to: 16 } });
+        has(text, 'The ways for 17 processes are not listed here.', 'No protocol at all does it for 17');
+        assert.ok(!text.includes('Why not'));
+    });
+
+    it('of a smaller limit says that no more were looked for', () => {
+        has(shown({ ...NUMBER_2, collisions: [], limit: 2, number: { at_least: 2 } }), 'More than 2 processes were not looked for here.');
+    });
+});
+
+describe('the layout', () => {
+    const box = (x, y, width, height) => ({ left: x - width / 2, right: x + width / 2, top: y - height / 2, bottom: y + height / 2 });
+    const meets = (a, b) => a.left < b.right && b.left < a.right && a.top < b.bottom && b.top < a.bottom;
+
+    it('has no label on another or on a node', () => {
+        for (const count of [1, 2, 3, 6, 12]) {
+            const nodes = Array.from({ length: count }, () => ({ width: 50, height: 32 }));
+            const ends = nodes.flatMap((_, from) => [[from, (from + 1) % count], [from, (from * 2) % count]]);
+            const arrows = [...new Map(ends.map(it => [it.join(), it])).values()].map(([from, to]) => ({ from, to, width: 60, height: 34 }));
+            const laid = Cnum.layOut({ nodes, arrows, start: 0 });
+            const boxes = [...laid.nodes.map(it => box(it.x, it.y, it.width, it.height)), ...laid.arrows.map(it => it.label)];
+            const pairs = boxes.flatMap((a, i) => boxes.slice(0, i).map(b => [a, b]));
+            assert.deepEqual(pairs.filter(([a, b]) => meets(a, b)), [], `${count} nodes`);
+        }
+    });
+});
+
+describe('the texts', () => {
+    const { en, de } = Cnum.languages;
+    const pieces = text => [...new Set(text.match(/\{\w+\}|<[^>]*>|\]\(word_\w+\)/g))].sort();
+
+    it('are the same ones in each language, with the same words in them', () => {
+        assert.deepEqual(Object.keys(de.texts).sort(), Object.keys(en.texts).sort());
+        for (const key of Object.keys(en.texts)) assert.deepEqual(pieces(de.texts[key]), pieces(en.texts[key]), key);
+    });
+
+    it('are all used, and no other', () => {
+        const files = fs.readdirSync(path.join(WEB, 'page')).filter(it => !it.startsWith('texts_'));
+        const sources = [...files.map(it => `page/${it}`), 'index.html'].map(it => fs.readFileSync(path.join(WEB, it), 'utf8')).join('\n');
+        const families = ['fault_', 'log_', 'kind_', 'save_', 'word_', 'rule_'];
+        const isUsed = key => sources.includes(`'${key}'`) || sources.includes(`"${key}"`) || families.some(it => key.startsWith(it));
+        assert.deepEqual(Object.keys(en.texts).filter(key => !isUsed(key)), []);
+        const asked = [...sources.matchAll(/\b(?:say|marked|paragraph|head)\('(\w+)'|data-(?:text|label|placeholder)="(\w+)"/g)].map(it => it[1] || it[2]);
+        assert.deepEqual(asked.filter(key => !(key in en.texts)), []);
+        const explained = Object.values(en.texts).flatMap(text => [...text.matchAll(/\]\((\w+)\)/g)].map(it => it[1]));
+        assert.deepEqual(explained.filter(key => !(key in en.texts)), []);
+        assert.deepEqual(Object.keys(en.texts).filter(it => it.startsWith('word_') && !explained.includes(it)), []);
+    });
+});
+
+// Each pattern of the page. None reads what the program prints for people, but that of its version. Texts of TOML, DOT
+// and JSON, links, names, keys and what the reader types are no such texts.
+const PATTERNS = {
+    'answers.js': [/"(?:[^"\\]|\\.)*"|\d+/g], // JSON
+    'dot.js': [/\s*("(?:[^"\\]|\\.)*"|->|\w+|[^\s\w"])/y], // DOT
+    'dropped_file.js': [/\.toml(\.txt)?$/i], // the name of a file
+    'example_search.js': [/[-_/\s]+/g], // what the reader looks for
+    'link.js': [/\+/g, /\//g, /=+$/, /-/g, /_/g, /^[2-8]$/, /^[xc]?[0-7]$/, /^\d{1,20}$/], // links
+    'page.js': [/^(.*?), proved (by .*)\n$/, /^\w+$/, / /g], // the version; a name of a type; a number for a name of a file
+    'run_view.js': [/^(?:Digit|Numpad)([0-7])$/], // a key
+    'table_edits.js': [/^[^\n]*\n?/], // TOML
+    'table_text.js': [
+        /[ \t\r\n]*(?:#[^\n]*[ \t\r\n]*)*/y, /[ \t]*/y, /[^\n]*\n?/y, /[A-Za-z0-9_-]+|"(?:[^"\\\n]|\\.)*"|'[^'\n]*'/y,
+        /"""[^]*?(?:[^\\]"""|$)/y, /'''[^]*?(?:'''|$)/y, /"(?:[^"\\\n]|\\.)*"?/y, /'[^'\n]*'?/y, /[^\s,\]}#]+/y,
+        /\]*/y, /[ \t]*(?:\.[^=\]\n]*)?/y, /^("""|'''|["'])/,
+    ], // TOML
+    'texts.js': [/\[([^\]]+)\]\((word_\w+)\)/g, /\{(\w+)\}/g], // the texts of the page
+};
+
+describe('the page', () => {
+    const LITERAL = /(?:[=(,:[!&|?{;]|=>|return)\s*(\/(?![/*])(?:[^/\\\n[]|\\.|\[(?:[^\]\\\n]|\\.)*\])+\/[a-z]*)/g;
+    const files = fs.readdirSync(path.join(WEB, 'page'));
+
+    for (const file of files) {
+        it(`has no other pattern in ${file}`, () => {
+            const text = fs.readFileSync(path.join(WEB, 'page', file), 'utf8');
+            assert.deepEqual([...text.matchAll(LITERAL)].map(found => found[1]), (PATTERNS[file] || []).map(String));
+            assert.ok(!text.includes('RegExp'));
+        });
+    }
+
+    it('has each of these files', () => assert.deepEqual(Object.keys(PATTERNS).filter(file => !files.includes(file)), []));
+});

@@ -1,0 +1,1256 @@
+"""The page in a browser, used as a person uses it. Each function here is a part of tests/page/run, and gives cases,
+(about, whether it is right, what was seen) each.
+"""
+import base64
+import contextlib
+import functools
+import http.server
+import json
+import math
+import pathlib
+import random
+import re
+import shutil
+import tempfile
+import threading
+import time
+import tomllib
+
+import jobs
+from calls import TOP, TYPES, called, found
+from lives import Lives, recording_witnesses, told_event
+from table import Table, table_text
+
+PAGE = (TOP / "web/index.html").as_uri()
+FIRST = 1.0  # seconds to the first number
+PHONE = {"width": 360, "height": 740, "deviceScaleFactor": 2, "mobile": True}
+SLOT = """name = "slot"
+states = ["empty", "a", "b"]
+responses = ["done"]
+[[operation]]
+name = "put_a"
+response = ["done", "done", "done"]
+next = ["a", "a", "a"]
+[[operation]]
+name = "put_b"
+response = ["done", "done", "done"]
+next = ["b", "b", "b"]
+"""
+
+TOO_LONG = "The table is longer than 65536 bytes. (cnum: table: too long)"
+FRAMED = "#example=types/three_shot&view=run"
+# Links that name what is not there.
+WRONG_LINKS = ["#limit=99", "#run=q,1,x", "#example=nosuch", "#inputs=abc,1&run=0", "#view=all", "#example=types/idle&table=AAAA"]
+WRONG_LINKS += ["#run=5", "#inputs=1,2,3&run=0", "#inputs=1,18446744073709551616&run=0", "#example=types/idle&run=1", "#exmaple=types/idle"]
+
+# The slot, with another name for its first state, without its second one.
+WITHOUT_A = """name = "slot"
+states = ["none_yet", "b"]
+responses = ["done"]
+[[operation]]
+name = "put_a"
+response = ["done", "done"]
+next = ["a", "b"]
+[[operation]]
+name = "put_b"
+response = ["done", "done"]
+next = ["b", "b"]
+"""
+
+LONG = TYPES["climbed_16_8"]  # the number takes longest of the types of tests/types
+
+# Questions to the page, in its own language.
+
+READY = "document.documentElement.dataset.ready === 'yes'"
+DECIDED = """[...document.querySelectorAll('.process')].every(it => /decided|stopped/.test(it.className))
+    && document.querySelectorAll('.log li').length > 0"""
+OVERLAPS = """(() => {
+    const boxes = [...document.querySelectorAll('#picture .label, #picture .node')].map(it => [it.textContent, it.getBBox()]);
+    const meets = (p, q) => p.x < q.x + q.width && q.x < p.x + p.width && p.y < q.y + q.height && q.y < p.y + p.height;
+    return boxes.flatMap(([a, p], i) => boxes.slice(i + 1).filter(([, q]) => meets(p, q)).map(([b]) => [a, b]));
+})()"""
+CELLS = """[...document.querySelectorAll('#grid tbody tr')].map(row =>
+    [...row.cells].slice(1).map(cell => [...cell.querySelectorAll('select')].map(it => it.value).join('>')))"""
+ACTS = """(async acts => {
+    const columns = [...document.querySelectorAll('.process')];
+    for (const [process, stops] of acts) columns[process].querySelectorAll('.buttons button')[stops ? 1 : 0].click();
+    await Cnum.page.protocol.update();
+})(%s)"""
+# The state that is lit in each picture, and the text of the last operation.
+LIT = """[...document.querySelectorAll('svg.states')].flatMap(it => [
+    [...it.querySelectorAll('.node.lit')].map(one => one.dataset.state),
+    [...it.querySelectorAll('.label text.lit')].map(one => one.dataset.operation),
+])"""
+# The texts of a picture that lie on another. Their boxes have the white around the letters, 4 points.
+TEXTS_MEET = """(() => {
+    const boxes = [...document.querySelectorAll('%s text')].map(it => [it.textContent, it.getBoundingClientRect()]);
+    const meets = (p, q) => p.left + 4 < q.right && q.left + 4 < p.right && p.top + 8 < q.bottom && q.top + 8 < p.bottom;
+    return boxes.flatMap(([a, p], i) => boxes.slice(i + 1).filter(([, q]) => meets(p, q)).map(([b]) => [a, b]));
+})()"""
+TRIED = "/agree|breaks/.test(document.querySelector('.trial').textContent)"
+# For each button of a process: whether the last line of the log is seen when the button is.
+FROM_BUTTON_TO_LOG = """[...document.querySelectorAll('.process button')].map(it => {
+    it.scrollIntoView({ block: 'center' });
+    const last = document.querySelector('.log li:last-child').getBoundingClientRect();
+    return last.top >= 0 && last.bottom <= innerHeight;
+})"""
+# The height of a letter of the picture, in points of the window.
+LETTER = "(it => it ? 13 * it.clientWidth / it.getAttribute('width') : 0)(document.querySelector('#picture svg'))"
+# Whether the start state, or else the first one, is in the part of the picture that is seen.
+START_IN_VIEW = """(([a, b]) => a.left <= b.left && b.right <= a.right && a.top <= b.top && b.bottom <= a.bottom)(
+    [document.getElementById('picture'), document.querySelector('#picture .start') || document.querySelector('#picture .node')]
+        .map(it => it.getBoundingClientRect()))"""
+SAVE_BUTTONS = "[...document.querySelectorAll('#protocol .buttons button')].filter(it => /^Save/.test(it.textContent))"
+OBJECTS = ["starts in bot", "a1 → a2, y answered a"]
+ACTS_SHOWN = ["writes 20", "x/a", "writes 30", "y/a", "writes 10", "stops", "reads a2"]
+FOCUSABLE = "a[href], button:not(:disabled), input, select, textarea, [tabindex='0'], summary"
+MARK_FOCUSED = """(it => {
+    window.reached = window.reached || new Map();
+    if (!window.reached.has(it)) window.reached.set(it, window.reached.size);
+    return window.reached.get(it);
+})(document.activeElement)"""
+CONTRAST = """(() => {
+    const numbers = text => text.match(/[\\d.]+/g).map(Number);
+    const light = color => {
+        const part = it => (it <= 0.03928 ? it / 12.92 : ((it + 0.055) / 1.055) ** 2.4);
+        const [r, g, b] = numbers(color).map(it => part(it / 255));
+        return 0.2126 * r + 0.7152 * g + 0.0722 * b;
+    };
+    const ground = it => {
+        for (; it; it = it.parentElement) {
+            const color = getComputedStyle(it).backgroundColor;
+            if (!color.startsWith('rgba') || numbers(color)[3] === 1) return color;
+        }
+        return 'rgb(255, 255, 255)';
+    };
+    const hasText = it => [...it.childNodes].some(one => one.nodeType === 3 && one.textContent.trim());
+    const texts = [...document.querySelectorAll('body *')].filter(it => hasText(it) && it.checkVisibility());
+    return texts.filter(it => !it.closest('svg, :disabled, option, #marks, noscript')).map(it => {
+        const [a, b] = [light(getComputedStyle(it).color), light(ground(it))];
+        return [(Math.max(a, b) + 0.05) / (Math.min(a, b) + 0.05), it.outerHTML.slice(0, 80)];
+    });
+})()"""
+
+
+class Use:
+    """The page in a browser, and how a person uses it."""
+
+    def __init__(self, browser):
+        self.browser, self.value, self.call = browser, browser.value, browser.call
+
+    def open(self, link="", page=TOP / "web/index.html", ready=READY):
+        """Opens the page anew, and waits until it is all there."""
+        self.browser.open("about:blank")
+        self.browser.open(page.as_uri() + link)
+        return self.until(ready)
+
+    def until(self, text, seconds=60):
+        """Whether an expression holds within this time. While a page is loaded, it may fail."""
+        end = time.monotonic() + seconds
+        while time.monotonic() < end:
+            with contextlib.suppress(RuntimeError):
+                if self.value(text):
+                    return True
+            time.sleep(0.02)
+        return False
+
+    def saved(self, room, action, before=""):
+        """The file that an action offers, written to this folder."""
+        self.value("(() => { Cnum.offer = (...words) => (window.offered = words); })()")
+        self.do(f"await {action};")
+        name, content = self.value("window.offered.slice(0, 2)")
+        pathlib.Path(room, before + name).write_text(content)
+        return pathlib.Path(room, before + name)
+
+    def seen(self):
+        """The table, the number, and the run that the page shows."""
+        return self.table(), self.text("number"), self.texts(".log li"), self.value("Cnum.page.protocol.inputs")
+
+    def text(self, name):
+        return self.value(f"document.getElementById('{name}').textContent")
+
+    def texts(self, selector):
+        return self.value(f"[...document.querySelectorAll({json.dumps(selector)})].map(it => it.textContent)")
+
+    def count(self, selector):
+        return self.value(f"document.querySelectorAll({json.dumps(selector)}).length")
+
+    def is_hidden(self, name):
+        return self.value(f"document.getElementById('{name}').hidden")
+
+    def has_number(self, number):
+        """Whether the page shows this number in the end."""
+        return self.until(f"document.getElementById('number').textContent === {json.dumps(number)}")
+
+    def do(self, action):
+        """Does something in the page, and waits until it has ended."""
+        self.value(f"(async () => {{ {action} }})()")
+
+    def give(self, table):
+        self.do(f"Cnum.page.text = {json.dumps(table)}; await Cnum.page.refresh();")
+
+    def begin(self, table):
+        """Gives a table, and does not wait for the results."""
+        self.value(f"(() => {{ Cnum.page.text = {json.dumps(table)}; Cnum.page.refresh(); }})()")
+
+    def choose(self, path):
+        self.do(f"await Cnum.page.choose({json.dumps(path)});")
+
+    def tool(self, name):
+        """Presses a button of the picture."""
+        self.value(f"document.querySelector('#picture-tools [aria-label={name}]').click()")
+
+    def press_key(self, place, key, **how):
+        """Presses a key at an element, as an event of the page alone."""
+        made = json.dumps({"key": key, "bubbles": True, "cancelable": True, **how})
+        self.value(f"(() => {{ document.querySelector({json.dumps(place)}).dispatchEvent(new KeyboardEvent('keydown', {made})); }})()")
+
+    def press_code(self, code, shift=False):
+        """Presses the key of this code where the focus is, as an event of the page alone."""
+        made = json.dumps({"code": code, "shiftKey": shift, "bubbles": True, "cancelable": True})
+        self.value(f"(() => {{ document.activeElement.dispatchEvent(new KeyboardEvent('keydown', {made})); }})()")
+
+    def search(self, query):
+        """Types this into the field of the examples. The names that are found."""
+        field = "document.getElementById('example')"
+        self.value(f"(it => {{ it.focus(); it.value = {json.dumps(query)}; it.dispatchEvent(new Event('input')); }})({field})")
+        return self.texts("#examples [role=option] strong")
+
+    def type(self, text):
+        """Puts a text behind the table, as typing does."""
+        self.value(f"(it => {{ it.value += {json.dumps(text)}; it.dispatchEvent(new Event('input')); }})(document.getElementById('table'))")
+
+    def limit(self, limit):
+        """Chooses the number of processes of the protocol, if more can agree."""
+        self.do(f"Cnum.page.limit = {limit}; await Cnum.page.refresh();")
+
+    def edit(self, change, *words):
+        """Changes the table by one of Cnum.edits."""
+        given = "".join(f", {json.dumps(it)}" for it in words)
+        self.do(f"await Cnum.page.edit(Cnum.edits.{change}(new Cnum.TableText(Cnum.page.text){given}));")
+
+    def table(self):
+        return self.value("Cnum.page.text")
+
+    def press(self, label):
+        """Presses a button of the protocol."""
+        self.value(f"[...document.querySelectorAll('#protocol .controls button')].find(it => it.textContent === {label!r}).click()")
+
+    def slide(self, count):
+        """Leads to a place of the run by the slider."""
+        events = "it.dispatchEvent(new Event('input')); it.dispatchEvent(new Event('change'));"
+        self.value(f"(it => {{ it.value = {count}; {events} }})(document.getElementById('run-place'))")
+
+    def trial(self):
+        return self.value("document.querySelector('.trial').textContent")
+
+    def offered(self, action):
+        """The name and the content of the file that an action offers."""
+        self.value("(() => { window.offered = null; Cnum.offer = (...words) => (window.offered = words); })()")
+        self.value(f"(() => {{ {action} }})()")
+        self.until("window.offered")
+        content = "typeof window.offered[1] === 'string' ? new Blob([window.offered[1]]) : window.offered[1]"
+        letters = f"new Response({content}).arrayBuffer().then(it => btoa(String.fromCharCode(...new Uint8Array(it))))"
+        return self.value("window.offered[0]"), base64.b64decode(self.value(letters))
+
+    def key(self, key, code, alt=False, shift=False, name=None):
+        how = {"key": key, "code": name or key, "windowsVirtualKeyCode": code, "modifiers": alt + 8 * shift}
+        for kind in ("rawKeyDown", "keyUp"):
+            self.call("Input.dispatchKeyEvent", type=kind, **how)
+
+
+def native_number(table):
+    """The number that the program itself prints."""
+    return called(["classify", "-"], table)[0].decode().partition(": ")[2].strip()
+
+
+def first_answer(use):
+    times = []
+    for _ in range(3):
+        use.browser.open("about:blank")
+        began = time.monotonic()
+        use.browser.open(PAGE)
+        yield "the first answer comes", use.has_number("2"), ""
+        times.append(time.monotonic() - began)
+    print(f"tests/page: the first number after {min(times):.2f} s")
+    yield f"and under {FIRST} s", min(times) < FIRST, times
+
+
+def flaws(use):
+    table = TYPES["test_and_set"]
+    place = table.rindex('"one"')
+    use.open()
+    use.value(f"(() => {{ const it = document.getElementById('table'); it.focus(); it.setSelectionRange({place}, {place + 5}); }})()")
+    use.call("Input.insertText", text='"onee"')
+    yield "a flaw while one types", use.until("document.querySelectorAll('#flaws li').length === 1"), use.text("flaws")
+    lint = called(["lint"], table[:place] + '"onee"' + table[place + 5 :])
+    fault = f"An entry names what the table does not have. ({lint[1].decode().strip()})"
+    told = use.text("flaws") + "\n", use.text("fault")
+    yield "it reads as lint has it, with the fault in words", told == (lint[0].decode(), fault), told
+    yield "there is no legend without a picture", use.is_hidden("legend"), ""
+    yield "it is marked in the text", use.texts("#marks mark") == ['"onee"'], use.texts("#marks mark")
+    yield "there is no number", use.text("number") == "–", use.text("number")
+    use.value("document.querySelector('#flaws button').click()")
+    selected = use.value("(it => it.value.slice(it.selectionStart, it.selectionEnd))(document.getElementById('table'))")
+    yield "its button leads there", selected == '"onee"', selected
+    yield "the field says that it is not right", use.value("document.getElementById('table').getAttribute('aria-invalid')") == "true", ""
+    for given, marked in flawed(table):
+        use.give(given)
+        lines = "".join(f"{it}\n" for it in use.texts("#flaws li"))
+        yield f"the flaws of {given!r}", lines == called(["lint"], given)[0].decode(), lines
+        yield f"what is marked of {given!r}", use.texts("#marks mark") == marked, use.texts("#marks mark")
+    use.give("\xe9" * 40000)
+    yield "a table that is too long", (use.text("fault"), use.text("number")) == (TOO_LONG, "–"), use.text("fault")
+
+
+def flawed(table):
+    """Tables with one flaw or more, and the marked parts of the text."""
+    number = table.replace("[[operation]]\n", "operation = [3]\n# ").replace("\nresponse =", "\n# ").replace("\nnext", "\n# next")
+    return [
+        (table.replace('next = ["one"', "next = one"), ["o"]),
+        (table.replace("next =", "then ="), ["[[operation]]", "then"]),
+        (table.replace('name = "tas"', 'name = "Tas"'), ['"Tas"']),
+        (table.replace('"zero", "one"]\nresp', '"zero", "zero"]\nresp'), ['"zero"', '"one"', '"one"']),
+        (table.replace('next = ["one", "one"]', 'next = ["one"]'), ['["one"]']),
+        (table.replace('name = "test_and_set"', "name = 7"), ["7"]),
+        (table.replace('responses = ["zero", "one"]', "responses = []"), ["[]", '"zero"', '"one"']),
+        (table + 'color = "red"\n', ["color"]),
+        (number, ["3"]),
+    ]
+
+
+def examples(use):
+    use.open()
+    paths = use.value("Cnum.examples.flatMap(it => it.types).map(it => it.path)")
+    yield "all types are offered", sorted(paths) == sorted(it for it in jobs.TABLES if not it.startswith("tests/")), paths
+    for path in paths:
+        use.choose(path)
+        table = jobs.TABLES[path].decode()
+        yield f"the number of {path}", use.text("number") == native_number(table), use.text("number")
+        grid = called(["lint"], table)[0].decode().splitlines()[2:]
+        cells, shown = [line.split()[1:] for line in grid if line.startswith("  ")], use.value(CELLS)
+        yield f"the grid of {path}", shown == [row[: len(shown[0])] for row in cells], shown
+        notes = [it for it in grid if it.startswith(("state ", "operation "))]
+        told = use.texts("#notes li")
+        yield f"the notes on {path}", [names_in(it) for it in told] == [names_in(it) for it in notes], (told, notes)
+        yield f"the picture of {path}", use.value(OVERLAPS) == [], use.value(OVERLAPS)
+        arrows = called(["draw"], table)[0].decode().count("->")
+        yield f"each arrow of {path}", use.count("#picture .label") == arrows, arrows
+
+
+def names_in(note):
+    """The names in a note of `lint` or of the page: those of states, and of an operation that changes nothing."""
+    return [it.strip(":.") for it in note.split()[1 :: 5 if note.lower().startswith("state") else 100]]
+
+
+def meanings(use):
+    """What the page says of a number, of no greatest number, and of a range."""
+    use.open()
+    for name, number, *told in (
+        ("idle", "1", "One process alone decides.", "No protocol lets 2 agree."),
+        ("three_shot", "3", "3 processes can agree", "No protocol lets 4 agree."),
+        ("sticky_bit", "infinite", "Any number of processes can agree"),
+        ("inc_dec_9", "9", "9 processes can agree", "No protocol lets 10 agree."),
+        ("memory_swap_own_8", "8", "8 processes can agree", "No protocol lets 9 agree."),
+        ("inc_dec_copies_16_8", "9 to 16", "9 processes can agree", "No protocol lets 17 agree.", "would take too long."),
+    ):
+        use.give(TYPES[name] if name in TYPES else (TOP / f"catalogue/{name}.toml").read_text())
+        said = use.text("meaning")
+        yield f"the number of {name}", use.text("number") == number, use.text("number")
+        recoverable = called(["classify", "--recoverable", "-"], use.table())[0].decode().partition(", recoverable ")[2].strip()
+        line = use.text("recoverable")
+        yield f"the recoverable number of {name}", line.startswith(f"Recoverable number: {recoverable}. "), line
+        yield f"what it says of {name}", all(it in said for it in told) and ("No protocol" in said) == (number != "infinite"), said
+
+
+def pictures(use):
+    """Tables made at random, and the greatest one, up to 16 states and 8 operations."""
+    use.open()
+    use.limit(2)
+    source = random.Random(7)
+    sizes = [(3, 2), (5, 3), (8, 3), (8, 8), (12, 2), (12, 4), (16, 2), (16, 4), (16, 8)]
+    for table in [TYPES["greatest"], *(random_table(source, *size) for size in sizes)]:
+        began = time.monotonic()
+        use.give(table)
+        about = f"a picture of {table.count('[[')} operations, {time.monotonic() - began:.1f} s"
+        yield about, use.value(OVERLAPS) == [] and use.count("#picture svg") == 1, use.value(OVERLAPS)
+
+
+def picture_tools(use):
+    """Letters that can be read, larger and smaller, and the choice of operations."""
+    use.open()
+    use.limit(2)
+    use.give(random_table(random.Random(7), 16, 8))
+    for about, size in (("a window", None), ("a phone", PHONE)):
+        if size:
+            use.call("Emulation.setDeviceMetricsOverride", **size)
+        use.until(f"{LETTER} > 0")
+        letter = use.value(LETTER)
+        yield f"letters of 16 states and 8 operations in {about}", letter >= 11, letter
+        before = use.value("document.querySelector('#picture svg').clientWidth")
+        use.tool("larger")
+        yield "larger", use.value("document.querySelector('#picture svg').clientWidth") > before, before
+        use.tool("smaller")
+        use.value("[...document.querySelectorAll('#picture-tools button')].find(it => it.textContent === 'Fit').click()")
+        yield "and back", use.value("document.querySelector('#picture svg').clientWidth") == before, before
+    use.call("Emulation.clearDeviceMetricsOverride")
+    use.choose("types/three_shot")
+    labels = use.texts("#picture .label text:not(.badge)")
+    use.value("document.querySelector('#operations input').click()")
+    left = use.texts("#picture .label text:not(.badge)")
+    yield "an operation is left out", left == [it for it in labels if not it.startswith("x/")] and use.value(OVERLAPS) == [], left
+    use.value("document.querySelector('#operations input').click()")
+    yield "and comes back", use.texts("#picture .label text:not(.badge)") == labels, ""
+
+
+def words(use):
+    """The words of the subject, explained where they stand."""
+    use.open("#example=types/test_and_set")
+    for place, word in (("#legend", "witness"), ("#why", "team"), ("#protocol", "nodes"), ("#protocol", "registers")):
+        at = f"[...document.querySelectorAll('{place} .word')].find(it => it.textContent.toLowerCase().startsWith({word!r}))"
+        note = f"document.getElementById({at}.getAttribute('aria-controls'))"
+        before = use.value(f"{note}.hidden")
+        use.value(f"{at}.click()")
+        told = use.value(f"[{note}.checkVisibility(), {at}.getAttribute('aria-expanded'), {note}.textContent.length > 20]")
+        yield f"{word} at {place}", before and told == [True, "true", True], (before, told)
+
+
+def random_table(source, states, operations):
+    names = [f"s{k}" if source.random() < 0.8 else f"state_with_a_long_name_{k}" for k in range(states)]
+    answers = ["yes", "no"]
+    chosen = [[[source.choice(its) for _ in names] for its in (answers, names)] for _ in range(operations)]
+    return table_text("random", names, answers, [(f"op_{k}", *rows) for k, rows in enumerate(chosen)])
+
+
+def grid(use):
+    """The slot of the README, changed cell by cell."""
+    use.open()
+    use.give(SLOT)
+    yield "a slot", use.text("number") == "1", use.text("number")
+    for label, name, number in (("state after put_a in b", "b", "1"), ("state after put_b in a", "a", "infinite")):
+        field = f"[...document.querySelectorAll('#grid select')].find(it => it.getAttribute('aria-label') === {label!r})"
+        use.value(f"(it => {{ it.focus(); it.value = {name!r}; it.dispatchEvent(new Event('change')); }})({field})")
+        well = use.until("/processes|alone/.test(document.getElementById('meaning').textContent)") and use.has_number(number)
+        yield f"{label} is {name}", well, use.text("number")
+        yield "the focus stays", use.value(f"document.activeElement.getAttribute('aria-label') === {label!r}"), ""
+    wanted = SLOT.replace('"a", "a", "a"', '"a", "a", "b"').replace('"b", "b", "b"', '"b", "a", "b"')
+    yield "the text follows", use.table() == wanted, use.table()
+    yield "it is no example any more", use.value("document.getElementById('example').value") == "", ""
+    use.value("document.getElementById('undo').click()")
+    yield "a change is undone", use.has_number("1"), use.text("number")
+    for kind, count in (("State", 3), ("Operation", 2), ("Response", 1)):
+        before = use.table()
+        use.edit(f"add{kind}")
+        yield f"the table stays right with one {kind} more", use.text("fault") == "" and use.table() != before, use.text("fault")
+        use.edit(f"remove{kind}", count)
+        yield f"and is as before with one {kind} less", use.table() == before, use.table()
+    use.edit("rename", "states", 0, "none_yet")
+    yield "a state has another name", '"none_yet"' in use.table() and use.text("fault") == "", use.text("fault")
+    use.edit("removeState", 1)
+    yield "a state in the middle is taken away, and what led to it stays", use.table() == WITHOUT_A, use.table()
+    marked = use.texts("#marks mark"), use.count("#grid td [aria-invalid]"), use.texts("#grid .trouble")
+    wanted = ['"a"'], 1, ["Choose anew what is marked: 1 entry names what is not there any more."]
+    yield "and is marked, in the text and in the grid", marked == wanted, marked
+
+
+def changes(use):
+    """Undo and redo, limits for what is added, a table of one's own."""
+    use.open()
+    first = use.table()
+    use.type("# mine\n")
+    typed = use.table()
+    use.choose("types/idle")
+    use.do(f"await Cnum.page.edit({json.dumps(SLOT)});")
+    seen = [use.table()]
+    for _ in range(3):
+        use.value("document.getElementById('undo').click()")
+        seen.append(use.table())
+    yield "typing, an example and another table are undone", seen == [SLOT, jobs.TABLES["types/idle"].decode(), typed, first], seen
+    yield "no more than there is", use.value("document.getElementById('undo').disabled"), ""
+    for place, key, how, wanted in (
+        ("#table", "z", {"ctrlKey": True, "shiftKey": True}, typed),
+        ("body", "y", {"ctrlKey": True}, seen[1]),
+        ("#table", "z", {"metaKey": True}, typed),
+        ("#redo", "Z", {"ctrlKey": True, "shiftKey": True}, seen[1]),
+        ("#example", "z", {"ctrlKey": True}, seen[1]),
+    ):
+        use.press_key(place, key, **how)
+        yield f"the keys {key} {how} at {place}", use.table() == wanted, use.table()
+    use.until("!document.getElementById('redo').disabled")
+    use.type("x")
+    yield "a change forgets what was undone", use.until("document.getElementById('redo').disabled", 5), ""
+    use.value("document.getElementById('own').click()")
+    yield "a table of one's own", use.has_number("1") and use.table().startswith('name = "my_type"'), use.table()
+    for label, most, count in (("Add a state", 16, 20), ("Add an operation", 8, 12), ("Add a response", 16, 20)):
+        button = f"document.querySelector('#grid [aria-label=\"{label}\"]')"
+        use.value(f"{button}.focus()")
+        for _ in range(count):
+            use.do(f"{button}.click(); await Cnum.page.refresh();")
+        noun = {"s": "states", "o": "operation", "r": "responses"}[label.split()[-1][0]]
+        made = use.value(f"new Cnum.TableText(Cnum.page.text).items('{noun}').length")
+        focused = use.value(f"document.activeElement === {button}")
+        yield f"{label}: at most {most}, and the focus stays", made == most and focused and use.text("flaws") == "", (made, focused)
+
+
+def comparisons(use):
+    """A table without each of its operations, and beside one that was kept."""
+    use.open("#example=catalogue/queue_2")
+    press = "[...document.querySelectorAll('#comparison button')].find(it => it.textContent === %r).click()"
+    use.value(press % "Without each operation")
+    use.until("document.querySelectorAll('#comparison tbody tr').length > 0")
+    seen = use.value("[...document.querySelectorAll('#comparison tbody tr')].map(it => [it.cells[0].textContent, it.cells[1].textContent])")
+    wanted = [["none", "infinite"]]
+    for index, name in enumerate(use.value("new Cnum.TableText(Cnum.page.text).operations.map(it => it.name.text)")):
+        wanted.append([name, native_number(use.value(f"Cnum.edits.removeOperation(new Cnum.TableText(Cnum.page.text), {index})"))])
+    yield "the number without each operation", seen == wanted and len(seen) > 3, (seen, wanted)
+    use.value(press % "Each pair of operations")
+    use.until("document.querySelectorAll('#comparison tbody button').length === 6")
+    cells = use.texts("#comparison tbody button")
+    told = json.loads(called(["pairs", "--as", "json", "-"], use.table())[0])
+    numbers = {frozenset(it["operations"]): str(it["number"]) for it in told["alone"] + told["pairs"]}
+    names = [it["operations"][0] for it in told["alone"]]
+    wanted_cells = [numbers[frozenset({first, second})] for k, first in enumerate(names) for second in names[: k + 1]]
+    yield "the number of each pair", cells == wanted_cells and len(set(cells)) > 1, (cells, wanted_cells)
+    sets = use.texts("#comparison li")
+    yield "the smallest sets with the number", sets == [", ".join(it) for it in told["smallest"]] != [], sets
+    use.open("#example=catalogue/queue_2&view=pairs")
+    yield "they are a view of their own", use.until("document.querySelectorAll('#comparison tbody button').length === 6"), ""
+    use.value("document.querySelectorAll('#comparison tbody button')[1].click()")
+    whole = use.until("!document.body.classList.contains('one-part') && document.querySelectorAll('#why .pairs').length > 0", 20)
+    yield "a cell opens why of that pair", whole and use.has_number(cells[1]) and use.count("#grid tbody tr") == 2, use.text("number")
+    use.open("#example=catalogue/queue_2")
+    use.value(press % "Without each operation")
+    use.until("document.querySelectorAll('#comparison tbody button').length === 3")
+    use.value("document.querySelector('#comparison tbody button').click()")
+    yield "such a table can be shown", use.has_number(wanted[1][1]) and wanted[1][0] not in use.texts("#grid tbody th .on-paper"), use.table()
+    use.give(SLOT)
+    use.value(press % "Keep this table to compare")
+    use.give(SLOT.replace('"b", "b", "b"', '"b", "a", "b"'))
+    well = use.until("document.querySelectorAll('#comparison tbody tr').length === 1", 10)
+    told = use.texts("#comparison tbody td, #comparison p")
+    well = well and told[1:] == ["a", "done → b", "done → a"] and "was 1, and is 1 now" in told[0]
+    yield "a table beside the one that was kept", well, told
+    use.value(press % "Show the table that was kept")
+    yield "it comes back", use.table() == SLOT, use.table()
+    use.give("x")
+    yield "a table with a flaw is not compared", use.count("#comparison table") == 0, ""
+
+
+def example_search(use):
+    use.open()
+    yield "compare and swap is found", "cas_3" in use.search("compare and swap"), use.search("compare and swap")
+    yield "a name comes first", use.search("queue_2")[0] == "queue_2", use.search("queue_2")
+    yield "by its literature", "cas_3" in use.search("loui abu amara") and "queue_2" not in use.search("loui abu"), ""
+    yield "what is not there is said", use.search("nosuchword") == [] and "No example" in use.text("examples"), use.text("examples")
+    use.search("three shot")
+    use.press_key("#example", "Enter")
+    yield "Enter takes the first one", use.has_number("3") and use.value("document.getElementById('example').value") == "three_shot", use.table()
+    use.until("document.querySelectorAll('#example-number option').length > 5")
+    use.value("(it => { it.value = '3'; it.dispatchEvent(new Event('change')); })(document.getElementById('example-number'))")
+    names = use.texts("#examples [role=option] strong")
+    wanted = [it for it in jobs.TABLES if not it.startswith("tests/") and native_number(jobs.TABLES[it].decode()) == "3"]
+    yield "by their number", sorted(names) == sorted(it.split("/")[1] for it in wanted), names
+    for _ in range(2):
+        use.press_key("#example", "ArrowDown")
+    chosen = use.value("document.querySelector('#examples [aria-selected=true] strong').textContent")
+    yield "arrow keys go through them", chosen == names[1], (chosen, names)
+    use.press_key("#example", "Escape")
+    yield "Escape leaves all as it was", use.is_hidden("examples") and use.has_number("3"), use.text("number")
+
+
+def schedules(use):
+    """The protocol stepped by hand: the page shows what the program says of the same schedule."""
+    source = random.Random(4)
+    use.open()
+    with tempfile.TemporaryDirectory() as room:
+        for name in ("test_and_set", "three_shot", "sticky_bit", "counter_3"):
+            use.choose(f"types/{name}")
+            use.limit(4)
+            certificate = found(name, 4, room)
+            n = json.loads(pathlib.Path(certificate).read_text())["number"]
+            inputs = ",".join(str(10 * (p + 1)) for p in range(n))
+            for turn in range(25):
+                acts = random_acts(source, n)
+                use.do("await Cnum.page.protocol.set([]);")
+                use.value(ACTS % json.dumps(acts))
+                schedule = ",".join(str(p) for p, stops in acts if not stops) or "none"
+                lines = called(["agree", "--steps", certificate, inputs, schedule], TYPES[name])[0].decode().splitlines()
+                told = [it.split(", ")[1].removeprefix("decides ") for it in use.texts(".decision")]
+                yield f"{name}, schedule {turn}: the decisions", [f"{p}: {it}" for p, it in enumerate(told)] == lines[-n:], (told, lines[-n:])
+                going = [told[p] for p in range(n) if [p, True] not in acts]
+                yield f"{name}, schedule {turn}: agreement", len({*told} - {"undecided"}) == 1 and "undecided" not in going, told
+                shown, wanted = use.texts(".log li"), log_of(acts, lines, TYPES[name], "bot" if name == "three_shot" else None)
+                yield f"{name}, schedule {turn}: a line for each act", shown == wanted, (shown, wanted)
+    use.press("Undo")
+    yield "undo takes an act back", use.until(f"document.querySelectorAll('.log li').length === {len(wanted) - 1}"), ""
+    for label in ("Let all run", "Random run"):
+        use.press("Start over")
+        use.until("document.querySelectorAll('.log li').length === 0")
+        use.press(label)
+        yield label, use.until(DECIDED), use.texts(".decision")
+
+
+def random_acts(source, n):
+    """Steps and stops of n processes, [process, whether it stops] each, enough for all who go on to decide."""
+    acts, going = [], list(range(n))
+    while len(acts) < 8 * n * n:
+        process = source.choice(going)
+        stops = len(going) > 1 and source.random() < 0.04
+        acts.append([process, stops])
+        if stops:
+            going.remove(process)
+    return acts
+
+
+def log_of(acts, lines, table, start):
+    """What the page is to tell of these acts: the program's line of each step, with the state before and after an operation. A
+    process that has decided takes no more steps, and cannot stop. Without a start, the state that is named first is the start."""
+    type_ = tomllib.loads(table)
+    moves = {it["name"]: dict(zip(type_["states"], it["next"])) for it in type_["operation"]}
+    states, decided, told, steps = {}, set(), [], iter(lines)
+    for process, stops in acts:
+        line = "stops for good" if stops else next(steps)[3:]
+        if process in decided:
+            continue
+        decided |= {process} if line.startswith("decides") else set()
+        applied = re.match(r"applies (\w+) at node (\d+)", line)
+        if applied:
+            before = states.get(applied[2], start or type_["states"][0])
+            states[applied[2]] = moves[applied[1]][before]
+            line += f" ({before} → {states[applied[2]]})"
+        told.append(f"process {process}: {line}")
+    return told
+
+
+def lives_of(name, n):
+    """The lives of n processes at this type, of its first recording witness, as the tests have them."""
+    table = Table(TYPES[name])
+    return Lives(table, *next(recording_witnesses(table, n)))
+
+
+def acts_of_lives(source, lives):
+    """Steps and crashes at random that count, and then steps of each process until it has decided; and what is told of each."""
+    inputs = [10 * (p + 1) for p in range(lives.n)]
+    world, acts, told = lives.first_world(inputs), [], []
+    chosen = [(source.randrange(lives.n), source.random() < 0.15) for _ in range(8 * lives.n)]
+    for process, crashes in [*chosen, *((p, False) for p in range(lives.n) for _ in range(6 * lives.n))]:
+        if not crashes and len(world[2][process]) == 1:
+            continue
+        acts.append((process, crashes))
+        told.append((process, told_event(lives, world, process, crashes)[0]))
+        world = lives.crash(world, process, inputs) if crashes else lives.step(world, process)
+    return acts, told, world
+
+
+CRASH_ACTS = """(async acts => {
+    for (const [process, crashes] of acts) {
+        document.querySelectorAll('.process')[process].querySelectorAll('.buttons button')[crashes ? 2 : 0].click();
+    }
+    await Cnum.page.protocol.update();
+})(%s)"""
+LOG_WITHOUT_CHANGES = """[...document.querySelectorAll('.log li')].map(it => it.firstChild.textContent)"""
+CHANGES = """[...document.querySelectorAll('.log .change')].map(it => it.textContent.trim())"""
+CRASHED = "#example=types/sticky_bit&crashes=yes&inputs=10,20,30&run=2,2,2,2,2,2,2,c2,0,2,2,2,2,2,2,2,2,c2"
+
+
+def crashes(use):
+    """Processes that crash and come back: the page shows what the tests make of the same acts, and what a process forgot."""
+    source = random.Random(5)
+    use.open()
+    use.value("document.getElementById('come-back').click()")
+    well = use.until("/no protocol lets two agree/.test(document.getElementById('protocol').textContent)") and use.count(".process") == 0
+    yield "where the recoverable number is 1, no protocol lets two agree", well, use.text("protocol")
+    for name, n in (("sticky_bit", 2), ("sticky_bit", 3), ("three_shot", 2)):
+        use.choose(f"types/{name}")
+        use.limit(n)
+        lives = lives_of(name, n)
+        yield f"{name}: so many processes", use.count(".process") == n and f"for {n} processes" in use.text("come-back-said"), use.text("come-back-said")
+        for turn in range(6):
+            acts, told, world = acts_of_lives(source, lives)
+            use.do("await Cnum.page.protocol.set([]);")
+            use.value(CRASH_ACTS % json.dumps(acts))
+            shown, wanted = use.value(LOG_WITHOUT_CHANGES), [f"process {p}: {it}" for p, it in told]
+            yield f"{name} for {n}, run {turn}: a line for each act", shown == wanted, (shown, wanted)
+            decided = [re.search(r"decides \d+", it)[0] for it in use.texts(".decision")]
+            yield f"{name} for {n}, run {turn}: the decisions", decided == [f"decides {it[0]}" for it in world[2]], (decided, world)
+    for _ in range(5):
+        use.do("await Cnum.page.protocol.set([]);")
+        use.press("Random run")
+        decisions = use.until(DECIDED) and use.value("[...new Set(Cnum.page.protocol.events.filter(it => it.kind === 'decides').map(it => it.value))].length")
+        yield "a random run ends, and all decisions in it are one", decisions in (0, 1), decisions
+
+
+def forgotten(use):
+    """What a process forgot, in the log, at the process, in the diagram and in the tournament; undo, the slider, keys and links."""
+    use.open(CRASHED)
+    told = use.value(CHANGES)
+    yield "each crash tells what is forgotten", told[1::2] == ["(forgets: node 0, value 30, last step: reads unset)", "(forgets: decision 30)"], told
+    seen = use.texts(".memory")[2], use.texts(".forgot"), use.texts(".decision")[2]
+    wanted = "Memory: node 1, value 30", ["", "", "Forgot: decision 30"], "0 steps, undecided, crashed 2 times"
+    yield "a process knows nothing but its proposal again", seen == wanted, seen
+    yield "objects and registers keep their contents", use.texts("#protocol td")[:3] == ["unset → one, put1 answered one", "10", "30"], use.texts("#protocol td")
+    marks = use.texts(".space-time .crashes"), use.count(".space-time .bolt"), use.value(TEXTS_MEET % ".space-time")
+    yield "the diagram marks each crash", marks == (["crashes"] * 2, 2, []), marks
+    places = use.texts(".tournament .lit"), use.texts(".tournament .forgotten")
+    yield "the tournament tells where each is, and the place that is forgotten", places == (["A 0: put0", "A 1: put0", "B 2: put1"], ["B 2: put1"]), places
+    use.slide(8)
+    yield "the slider leads back", use.texts(".forgot")[2] == "Forgot: node 0, value 30, last step: reads unset", use.texts(".forgot")
+    use.press("Undo")
+    yield "a crash is undone", use.until("document.querySelectorAll('.log li').length === 7") and use.texts(".forgot")[2] == "", use.texts(".forgot")
+    yield "the link says so", use.until("location.hash.endsWith('&crashes=yes&inputs=10,20,30&run=2,2,2,2,2,2,2')", 5), use.value("location.hash")
+    use.value("document.querySelector('.process button').focus()")
+    for code, kind in (("KeyC", "looks"), ("Digit2", "crashes"), ("Digit2", "writes"), ("KeyC", "writes"), ("KeyU", "crashes"), ("Shift Digit1", "stops")):
+        use.press_code(code.split()[-1], code.startswith("Shift"))
+        use.do("await Cnum.page.protocol.update();")
+        last = use.value("Cnum.page.protocol.events.slice(0, Cnum.page.protocol.position).pop().kind")
+        yield f"key {code}", last == kind, last
+    buttons = use.value("[...document.querySelectorAll('.process')].map(it => [...it.querySelectorAll('.buttons button')].map(one => one.disabled))")
+    yield "who has stopped does not crash", buttons == [[False] * 3, [True] * 3, [False] * 3], buttons
+    use.open("#example=types/three_shot&crashes=yes")
+    yield "as many processes as the recoverable number", use.count(".process") == 2 and use.text("limit-said").startswith("Why is for 3"), use.text("limit-said")
+    use.value("document.getElementById('come-back').click()")
+    well = use.until("document.querySelectorAll('.process').length === 3") and use.text("limit-said").startswith("Why and the protocol are for 3")
+    yield "and back", well and use.until("location.hash === '#example=types/three_shot'", 5), use.value("location.hash")
+    use.open(f"{CRASHED}&lang=de")
+    yield "in German", use.texts(".log li")[7].startswith("Prozess 2: stürzt ab (vergisst: Knoten 0, Wert 30"), use.texts(".log li")
+    for wrong in ("#example=types/test_and_set&crashes=yes&run=0,1", "#example=types/three_shot&crashes=yes&inputs=1,2,3&run=0", "#example=types/idle&run=c0"):
+        use.open(wrong)
+        yield f"refused: {wrong}", use.text("trouble").startswith("This link cannot be shown: ") and use.is_hidden("content"), use.text("trouble")
+
+
+def pictured_runs(use):
+    """A run as a picture: the states of objects, the space-time diagram, the slider, the keys."""
+    use.open("#example=types/three_shot&run=1,1,2,2,0,x0,1")
+    yield "what became of the objects", use.texts("#protocol td:nth-child(2)") == OBJECTS, use.texts("#protocol td:nth-child(2)")
+    yield "the state of the object is lit", use.value(LIT) == [["a2"], ["y"]] * 2, use.value(LIT)
+    yield "the diagram has each act", use.texts(".space-time .mark-of-step text:first-of-type") == ACTS_SHOWN, use.texts(".space-time text")
+    yield "no text of it lies on another", use.value(TEXTS_MEET % ".space-time") == [], use.value(TEXTS_MEET % ".space-time")
+    yield "nor in the tournament", use.value(TEXTS_MEET % ".tournament") == [], use.value(TEXTS_MEET % ".tournament")
+    use.slide(0)
+    lit = use.value(LIT)
+    yield "before the first operation, the picture of the states shows no run", lit[0] == [] and lit[2] == ["bot"], lit
+    use.slide(2)
+    told = use.texts(".log li")
+    yield "the slider leads to a place of the run", len(told) == 2 and use.value(LIT)[0] == ["a1"], (told, use.value(LIT))
+    use.slide(7)
+    yield "and back to its end", use.count(".log li") == 7, use.texts(".log li")
+    kept = use.until("location.hash.endsWith('run=1,1,2,2,0,x0,1')", 5)
+    yield "the link has the run up to that place", kept, use.value("location.hash")
+    use.do("await Cnum.page.protocol.runAll();")
+    pressable = use.value("[...document.querySelectorAll('.process button')].filter(it => !it.disabled).length")
+    edge = "(it => it.querySelector('.heads text').getBoundingClientRect().left - it.getBoundingClientRect().left)"
+    edge = use.value(f"{edge}(document.querySelector('.space-time').parentElement)")
+    yield "the names of the processes stay in view", 0 <= edge < 30, edge
+    yield "who has decided or stopped takes no step and cannot stop", pressable == 0, pressable
+    with tempfile.TemporaryDirectory() as room:
+        for part, index, beginning in (("run", 0, b"<svg"), ("run", 1, b"\x89PNG"), ("tournament", 2, b"<svg"), ("tournament", 3, b"\x89PNG")):
+            name, content = use.offered(f"{SAVE_BUTTONS}[{index}].click()")
+            well = content.startswith(beginning) and name == f"three_shot_3_{part}.{'png' if index % 2 else 'svg'}"
+            yield f"the picture {name} is saved", well, (name, content[:9])
+        for form, beginning in (("svg", b"<svg"), ("png", b"\x89PNG")):
+            name, content = use.offered(f"document.getElementById('picture-{form}').click()")
+            yield f"the picture {name} is saved", content.startswith(beginning) and name == f"three_shot_3_states.{form}", content[:9]
+    use.value("(it => { it.value = 'abc'; it.dispatchEvent(new Event('change')); })(document.getElementById('input-1'))")
+    told = use.text("input-1-wrong"), use.value("document.getElementById('input-1').getAttribute('aria-invalid')")
+    yield "a proposal that is no number is marked", "is no number" in told[0] and told[1] == "true", told
+    yield "and changes nothing", use.value("Cnum.page.protocol.inputs[1]") == "20", ""
+
+
+def adversaries(use):
+    """Schedules that are tried, with how many there are, counted by hand: of two processes with four steps each, 70; of three with
+    their first five steps in any order, 10 in which one has decided, with 2 orders of the others, and 232 with 6."""
+    use.open()
+    use.press("Try to break it")
+    yield "all schedules of two", use.until(TRIED, 60) and use.trial().startswith("All 70 schedules agree"), use.trial()
+    yield "the one with the most turns is shown", use.count(".log li") == 8, use.texts(".log li")
+    use.choose("types/three_shot")
+    use.press("Try to break it")
+    yield "schedules of three", use.until(TRIED, 120) and use.trial().startswith("All 1412 schedules agree"), use.trial()
+    use.choose("catalogue/cas_3")
+    use.limit(4)
+    use.press("Try to break it")
+    yield "schedules of four, at random", use.until(TRIED, 120) and use.trial().startswith("500 schedules, chosen at random"), use.trial()
+    for name, n, acts, crashes in (("sticky_bit", 2, 7, 2), ("sticky_bit", 3, 4, 1)):
+        use.open(f"#example=types/{name}&limit={n}&crashes=yes")
+        count = tried_lives(lives_of(name, n), acts, crashes)
+        use.press("Try to break it")
+        well = use.until(TRIED, 120) and use.trial().startswith(f"All {count} schedules agree whose first {acts} acts are steps and crashes")
+        yield f"schedules of {n} that come back", well, (count, use.trial())
+        shown = use.value("Cnum.page.protocol.events.filter(it => it.kind === 'crashes').length")
+        yield "the one that is shown has crashes", shown == crashes, shown
+    use.choose("catalogue/cas_3")
+    use.limit(4)
+    use.press("Try to break it")
+    yield "schedules of four that come back", use.until(TRIED, 120) and use.trial().startswith("500 schedules with crashes"), use.trial()
+    use.press("Try to break it")
+    use.until("/^[1-9]/.test(document.querySelector('.trial').textContent)")
+    use.press("Break it off")
+    yield "it can be broken off", use.trial() == "The trial was broken off.", use.trial()
+    use.open("#example=types/three_shot&crashes=yes")
+    use.press("Try to break it")
+    use.choose("types/sticky_bit")
+    yield "another table ends it", (use.count(".process"), use.trial(), use.texts(".log li")) == (8, "", []), use.trial()
+
+
+def tried_lives(lives, acts, crashes):
+    """How many schedules have so many first acts, of which at most so many are crashes of a process that has taken a step since its
+    last one, and after them the processes one after another, in any order, each until it decides."""
+    inputs = list(range(lives.n))
+    first = lives.first_world(inputs)[2]
+
+    def count(world, left, may):
+        going = [p for p in range(lives.n) if len(world[2][p]) > 1]
+        if not left:
+            return math.factorial(len(going))
+        crashed = [lives.crash(world, p, inputs) for p in range(lives.n) if may and world[2][p] != first[p]]
+        return sum(count(lives.step(world, p), left - 1, may) for p in going) + sum(count(it, left - 1, may - 1) for it in crashed)
+
+    return count(lives.first_world(inputs), acts, crashes)
+
+
+def keys(use):
+    """The protocol stepped by keys."""
+    use.open("#example=types/three_shot")
+    use.value("document.querySelector('.process button').focus()")
+    counts = (("Digit1", 1), ("Shift Digit2", 2), ("Digit2", 2), ("Digit7", 2), ("Numpad0", 3), ("KeyU", 2))
+    for code, wanted in counts:
+        use.press_code(code.split()[-1], code.startswith("Shift"))
+        well = use.until(f"document.querySelectorAll('.log li').length === {wanted}", 5)
+        yield f"key {code}", well, use.texts(".log li")
+    use.value("document.getElementById('input-0').focus()")
+    use.press_code("Digit1")
+    use.do("await Cnum.page.protocol.update();")
+    yield "a key in a field is text", use.count(".log li") == 2, use.texts(".log li")
+    use.value("document.querySelectorAll('.process button')[0].focus()")
+    for _ in range(4):
+        use.press_code("Digit0")
+        use.do("await Cnum.page.protocol.update();")
+    use.press_code("Digit1")
+    yield "the keys go on after a decision", use.until("document.querySelectorAll('.log li').length === 7", 5), use.texts(".log li")
+
+
+def phone(use):
+    """The protocol on a phone, and a key of the browser's own."""
+    use.call("Emulation.setDeviceMetricsOverride", **PHONE)
+    use.open("#example=types/three_shot&run=0,1,2,0,1,2,1,1")
+    seen = use.value(FROM_BUTTON_TO_LOG)
+    yield "the log is seen at each button", seen and all(seen), seen
+    use.value("document.querySelector('.process button').focus()")
+    use.key("1", 49, name="Digit1")
+    yield "a key", use.until("document.querySelectorAll('.log li').length === 9", 5), use.texts(".log li")
+    use.call("Emulation.clearDeviceMetricsOverride")
+
+
+def links(use):
+    use.open("#example=types/three_shot&limit=2&inputs=7,8&run=1,1,0,x0")
+    shown = use.text("number"), use.value("JSON.parse(Cnum.page.certificate).limit"), use.texts(".decision")
+    yield "a link shows fewer processes than can agree", shown[:2] == ("3", 2) and len(shown[2]) == 2, shown
+    yield "and keeps that", use.until("location.hash.includes('&limit=2&')", 5), use.value("location.hash")
+    use.open("#example=types/sticky_bit&inputs=7,8,9&run=2,0")
+    yield "inputs without a limit tell how many processes there are", use.count(".process") == 3, use.count(".process")
+    use.open("#example=types/three_shot&limit=4&inputs=7,8,9&run=2,2,x2,0,0,0,0")
+    yield "a link shows an example", use.text("number") == "3", use.text("number")
+    yield "a limit that is no smaller is none", use.until("!location.hash.includes('limit')", 5), use.value("location.hash")
+    told = use.texts(".decision")
+    yield "and its run", told[0].startswith("4 steps, decides") and told[2] == "2 steps, undecided, stopped", told
+    use.open()
+    use.give(SLOT.replace('"b", "b", "b"', '"b", "a", "b"'))
+    kept = use.until("location.hash.startsWith('#table=')")
+    link, text = use.value("location.hash"), use.table()
+    use.open(link)
+    yield "a link holds a table", kept and use.table() == text, link
+    use.value("document.getElementById('skip').click()")
+    yield "the skip link keeps the table", use.value("location.hash") == link and use.table() == text, use.value("location.hash")
+    use.open()
+    use.value("Cnum.page.address.copy()")
+    yield "a link of a file says so", "on this machine only" in use.text("link-said"), use.text("link-said")
+    for number, damaged in enumerate((link[:-6], f"{link}&limi=4", "#table=%%%", "#table=AAAA", *WRONG_LINKS)):
+        use.open(damaged)
+        told = use.text("trouble")
+        yield f"damaged link {number}", told.startswith("This link cannot be shown: ") and use.is_hidden("content"), (damaged, told)
+    use.value("document.querySelector('#trouble a').click()")
+    well = use.has_number("2") and not use.is_hidden("content") and use.text("trouble") == ""
+    yield "from there one begins with an example", well, use.text("trouble")
+    parts = {"number": "number-part", "why": "why-part", "states": "picture-part", "run": "protocol-part", "pairs": "compare-part"}
+    for view, part in parts.items():
+        use.open(f"#example=types/three_shot&run=0,1&view={view}")
+        shown = use.value("[...document.querySelectorAll('main > section')].filter(it => it.checkVisibility()).map(it => it.id)")
+        yield f"the view {view}", shown == [part] and use.value("location.hash").endswith(f"view={view}"), shown
+
+
+def one_file(use):
+    """The page in one file, alone in an empty folder, and saved with a table and a run."""
+    with tempfile.TemporaryDirectory() as room:
+        alone = pathlib.Path(room, "cnum.html")
+        alone.write_bytes((TOP / "web/cnum.html").read_bytes())
+        times = []
+        for _ in range(3):
+            began = time.monotonic()
+            use.open(page=alone)
+            yield "it answers alone in a folder", use.has_number("2"), use.text("trouble")
+            times.append(time.monotonic() - began)
+        yield f"in less than {FIRST} s", min(times) < FIRST, times
+        for run in ("run=0,1,x1", "crashes=yes&run=0,1,c1"):
+            use.open(f"#example=types/three_shot&{run}", page=alone)
+            use.value("Cnum.page.protocol.update()")
+            names = [use.saved(room, "Cnum.page.address.savePage()")]
+            before = use.seen()
+            use.open(page=names[0])
+            yield f"a saved page shows its table and {run}", use.seen() == before and names[0].name == "three_shot.html", use.seen()
+            names.append(use.saved(room, "Cnum.page.address.savePage()", "again_"))
+            yield "it can be saved again, the same", names[0].read_bytes() == names[1].read_bytes(), ""
+        use.give(SLOT)
+        use.open(page=use.saved(room, "Cnum.page.address.savePage()"))
+        yield "a saved page with a table of one's own", use.table() == SLOT and use.has_number("1"), use.table()
+
+
+def on_a_server(use):
+    """The page in one file on a server, and in a frame of another page."""
+    with tempfile.TemporaryDirectory() as room:
+        pathlib.Path(room, "cnum.html").write_bytes((TOP / "web/cnum.html").read_bytes())
+        pathlib.Path(room, "course.html").write_text(f'<!doctype html><iframe src="cnum.html{FRAMED}"></iframe>')
+        server = http.server.ThreadingHTTPServer(("127.0.0.1", 0), functools.partial(Quiet, directory=room))
+        threading.Thread(target=server.serve_forever, daemon=True).start()
+        address = f"http://127.0.0.1:{server.server_port}"
+        use.browser.open(f"{address}/cnum.html")
+        yield "it answers from a server", use.until(READY) and use.has_number("2"), ""
+        use.value("Cnum.page.address.copy()")
+        yield "its link is for everyone", "this machine" not in use.text("link-said"), use.text("link-said")
+        use.browser.open(f"{address}/course.html")
+        sections = "[...frames[0].document.querySelectorAll('main > section')].filter(it => it.checkVisibility()).map(it => it.id).join()"
+        yield "a part of it stands in a frame", use.until(f"frames[0].{READY} && {sections} === 'protocol-part'"), ""
+        whole = use.value("frames[0].document.getElementById('whole-link').href")
+        yield "with a link to the whole page", whole.endswith("/cnum.html#example=types/three_shot"), whole
+        server.shutdown()
+
+
+class Quiet(http.server.SimpleHTTPRequestHandler):
+    """A server that reports nothing."""
+
+    def log_message(self, *_):
+        pass
+
+
+def missing_parts(use):
+    """A folder that lacks a part of the page, or all of them."""
+    parts = [pathlib.Path(it) for it in re.findall(r'(?:src|href)="([\w/]+\.(?:js|css))"', (TOP / "web/index.html").read_text())]
+    for absent in ([it] for it in (*parts, None)):
+        absent = absent if absent[0] else parts
+        with tempfile.TemporaryDirectory() as room:
+            for it in [pathlib.Path("index.html"), *(it for it in parts if it not in absent)]:
+                pathlib.Path(room, it).parent.mkdir(exist_ok=True)
+                pathlib.Path(room, it).write_bytes((TOP / "web" / it).read_bytes())
+            use.browser.open("about:blank")
+            use.browser.open(pathlib.Path(room, "index.html").as_uri())
+            use.until("document.readyState === 'complete'")
+            told = use.text("trouble")
+            well = told.startswith("The folder of this page lacks ") and all(it.name in told for it in absent)
+            yield f"without {absent[0] if len(absent) == 1 else 'any part'}", well and use.is_hidden("content"), told
+
+
+def certificates(use):
+    use.open()
+    whole = called(["find"], TYPES["test_and_set"])[0].decode()
+    yield "the certificate is the program's", use.value("Cnum.page.certificate") == whole, ""
+    drop = """((name, text) => {
+        const dataTransfer = new DataTransfer();
+        dataTransfer.items.add(new File([text], name));
+        document.getElementById('claim').dispatchEvent(new DragEvent('drop', { dataTransfer, bubbles: true, cancelable: true }));
+    })(%s)"""
+    for text, told in (
+        (whole, "claim.json is right: it is a certificate of this table."),
+        (whole.replace('"number":2', '"number":3'), "claim.json is refused. Its witness does not fit its number"),
+        (whole.replace("test_and_set", "idle"), "claim.json is refused. It is a certificate of another type"),
+        (whole.replace("[0,1],[2,1]", "[0,1],[1,2]"), "claim.json is refused. Its collision 0 is none. (cnum: check: 7 NotACollision 0)"),
+        ("{" * 16777217, "claim.json is refused. It is longer than any certificate. (cnum: certificate: too long)"),
+        ("{", "claim.json is refused. It is no JSON, and so no certificate. (cnum: certificate: 1 NotJson)"),
+    ):
+        use.value(drop % f"'claim.json', {json.dumps(text)}")
+        well = use.until(f"document.getElementById('claim-said').textContent.startsWith({json.dumps(told)})", 10)
+        yield f"a certificate that is dropped: {told}", well, use.text("claim-said")
+        box = use.value("(it => [it.top, it.bottom, innerHeight])(document.getElementById('notice').getBoundingClientRect())")
+        seen = use.text("notice-text").startswith(told) and 0 <= box[0] and box[1] <= box[2]
+        yield "it is answered where one looks", seen, (box, use.text("notice-text"))
+    use.value("document.getElementById('notice-close').click()")
+    yield "the answer can be closed", use.is_hidden("notice"), ""
+    for name in ("slot.toml", "SLOT.TOML", "slot.toml.txt"):
+        use.choose("types/idle")
+        use.value(drop % f"{json.dumps(name)}, {json.dumps(SLOT)}")
+        well = use.until(f"Cnum.page.text === {json.dumps(SLOT)}", 10) and use.has_number("1")
+        told = use.text("notice-text")
+        yield f"the table {name} that is dropped", well and told == f"{name} is the table now.", (use.table(), told)
+    use.choose("types/idle")
+    use.value(drop % f"'wide.toml', new Uint8Array({list(SLOT.encode('utf-16'))})")
+    yield "a table in UTF-16", use.until(f"Cnum.page.text === {json.dumps(SLOT)}", 10), use.table()
+
+
+def explanations(use):
+    use.open()
+    for name in ("test_and_set", "sticky_bit", "idle", "counter_3", "three_shot"):
+        use.choose(f"types/{name}")
+        wanted = called(["why", "-"], TYPES[name])[0].decode()
+        use.value("(() => { document.querySelector('#why details').open = true; })()")
+        use.until("document.querySelector('#why details pre').textContent")
+        yield f"the explanation of {name}, as it is printed", use.texts("#why details pre") == [wanted], use.texts("#why details pre")
+        use.value("(() => { document.querySelector('#why details').open = false; })()")
+        told = json.loads(called(["why", "--as", "json", "-"], TYPES[name])[0])
+        for about, selector, texts in shown_of(told):
+            yield f"{about} of {name}", use.texts(selector) == texts, (use.texts(selector), texts)
+    for name, most, count in (("test_and_set", "as many as can agree", 2), ("sticky_bit", "the most for which the program gives evidence", 8)):
+        use.choose(f"types/{name}")
+        said = use.text("limit-said"), use.count(".process")
+        yield f"for how many processes the evidence of {name} is", most in said[0] and f" {count} " in said[0] and said[1] == count, said
+    use.value("(it => { it.value = '3'; it.dispatchEvent(new Event('change')); })(document.getElementById('limit'))")
+    well = use.until("document.querySelectorAll('.process').length === 3", 20) and "as you chose" in use.text("limit-said")
+    yield "one can choose fewer", well and use.text("number") == "infinite", (use.text("limit-said"), use.count(".process"))
+    use.choose("types/idle")
+    yield "for one process there is nothing to say or choose", use.is_hidden("limit-part") and use.text("limit-said") == "", use.text("limit-said")
+    use.choose("catalogue/cas_3")
+    said = use.text("limit-said"), use.count(".process"), use.text("fault")
+    yield "a type with many choices has evidence too", " 7 are the most" in said[0] and said[1:] == (7, ""), said
+    use.choose("types/three_shot")
+    label = use.value("document.querySelector('#why > button').textContent")
+    whole = use.value("JSON.parse(Cnum.page.certificate).collisions.length")
+    yield "how many more there are, of how many", label == f"Show {min(100, whole - 12)} more of {whole}", label
+    while not use.value("document.querySelector('#why > button').hidden"):
+        before = use.count(".collisions > li")
+        use.value("document.querySelector('#why > button').click()")
+        use.until(f"document.querySelectorAll('.collisions > li').length > {before}")
+    yield "all collisions on demand", use.count(".collisions > li") == whole > 12, whole
+
+
+def shown_of(told):
+    """What the page has to show of an explanation, as (about, selector, texts)."""
+    runs = [run for it in told["collisions"] for run in ((it, it["a_first"]), (it, it["b_first"]))]
+    yield "the states of the collisions", "#why .run .state", [it for one, run in runs for it in (one["start"], *(step["state"] for step in run["steps"]))]
+    steps = [step for _, run in runs for step in run["steps"]]
+    yield "the steps of the collisions", "#why .step", [f"p{it['process']} {it['operation']} answers {it['response']}" for it in steps]
+    ends = [f"p{one['process']} got {run['pair']['response']}, reads {run['pair']['state']}" for one, run in runs]
+    yield "what the process got", "#why .run .end", ends
+    yield "who cannot tell", "#why .collisions strong", [f"p{it['process']} cannot tell" for it in told["collisions"]]
+    rows = []
+    for it in told["witness"]["processes"] if told["witness"] else []:
+        pairs = [f"got {pair['response']}, reads {pair['state']}" for side in ("a_first", "b_first") for pair in it[side]]
+        if not rows or rows[-1] != (it["operation"], it["team"], pairs):
+            rows.append((it["operation"], it["team"], pairs))
+    yield "the pairs of the witness", "#why .pairs td li", [pair for *_, pairs in rows for pair in pairs]
+    lasting = told["lasting"] or {"single_states": [], "many_states": []}
+    states = [", ".join(it) for it in (lasting["single_states"], lasting["many_states"]) if it]
+    yield "the states of operations that last", "#why .pairs tr td:last-child:nth-child(2)", states
+
+
+def searches(use):
+    use.open()
+    use.begin(LONG)
+    yield "a long search shows that it runs", use.until("!document.getElementById('running').hidden", 20), use.text("meaning")
+    use.value("document.getElementById('break-off').click()")
+    well = use.until("document.getElementById('running').hidden", 5)
+    yield "it can be broken off", well and "broken off" in use.text("meaning"), use.text("meaning")
+    use.choose("types/test_and_set")
+    yield "and the page goes on", use.text("number") == "2", use.text("number")
+    use.begin(LONG)
+    use.until("!document.getElementById('running').hidden", 20)
+    use.choose("types/idle")
+    yield "another table breaks it off too", use.text("number") == "1" and use.is_hidden("running"), use.text("number")
+    use.value(f"(() => {{ Cnum.page.text = {json.dumps(TYPES['three_shot'])}; Cnum.page.refresh(); Cnum.page.text += 'x'; }})()")
+    well = use.until("document.querySelectorAll('.process').length === 3", 20) and use.has_number("3")
+    yield "letters that are typed meanwhile do not disturb it", well, use.text("number")
+
+
+def without(use):
+    """A browser that lacks what the program needs gets a sentence."""
+    for name in ("WebAssembly", "DecompressionStream", "Worker"):
+        script = use.call("Page.addScriptToEvaluateOnNewDocument", source=f"delete globalThis.{name};")["identifier"]
+        use.browser.open("about:blank")
+        use.browser.open(PAGE)
+        well = use.until("document.getElementById('trouble') && document.getElementById('trouble').textContent", 10)
+        told = use.text("trouble")
+        yield f"without {name}", well and told.startswith("This browser cannot run the program"), told
+        use.call("Page.removeScriptToEvaluateOnNewDocument", identifier=script)
+
+
+def for_all(use):
+    """Keyboard, screen readers, contrast, a phone."""
+    shown = "#example=types/three_shot&run=0,1,x1"
+    use.open(shown)
+    wants_name = {"button", "combobox", "textbox", "link", "region", "img", "spinbutton"}
+    nodes = [it for it in use.call("Accessibility.getFullAXTree")["nodes"] if not it.get("ignored") and it["role"]["value"] in wants_name]
+    nameless = [it for it in nodes if not it.get("name", {}).get("value")]
+    yield "each control has a name", nodes and nameless == [], nameless[:3]
+    count = use.value(f"[...document.querySelectorAll({json.dumps(FOCUSABLE)})].filter(it => it.checkVisibility()).length")
+    reached = set()
+    for _ in range(count + 5):
+        use.key("Tab", 9)
+        reached.add(use.value(MARK_FOCUSED))
+    yield "the key Tab leads to each", len(reached) >= count, f"{len(reached)} of {count}"
+    use.value("document.querySelector('#grid td select').focus()")
+    use.key("ArrowRight", 39, alt=True)
+    there = use.value("document.activeElement.getAttribute('aria-label')")
+    yield "Alt and an arrow lead to the next cell", there == "response of x in a1", there
+    for mode in ("light", "dark"):
+        use.call("Emulation.setEmulatedMedia", features=[{"name": "prefers-color-scheme", "value": mode}])
+        use.open(shown)
+        for about in ("with a number", "with a flaw"):
+            contrasts = use.value(CONTRAST)
+            faint = [it for it in contrasts if it[0] < 4.5]
+            yield f"contrast {about}, {mode}", len(contrasts) > 20 and faint == [], faint
+            use.give('name = "X"\n')
+    use.call("Emulation.setEmulatedMedia", features=[])
+    use.call("Emulation.setDeviceMetricsOverride", **PHONE)
+    for path in ("types/test_and_set", "types/three_shot", "types/wide", "catalogue/ll_sc_2"):
+        use.open(f"#example={path}")
+        yield f"the first state of {path} is in view on a phone", use.value(START_IN_VIEW), ""
+        width = use.value("document.documentElement.scrollWidth")
+        yield f"{path} on a phone", width <= PHONE["width"], width
+    use.call("Emulation.clearDeviceMetricsOverride")
+
+
+def paper(use):
+    """The page in print: one sheet for a small type, nothing cut, and no controls."""
+    sheets_of = {"types/test_and_set&run=1,1,0,0,0,0,1,1": 1, "types/binary_register": 1, "types/wide": 2}
+    for link, most in sheets_of.items():
+        use.open(f"#example={link}")
+        printed = base64.b64decode(use.call("Page.printToPDF", paperWidth=8.27, paperHeight=11.69, preferCSSPageSize=True)["data"])
+        sheets = len(re.findall(rb"/Type\s*/Page\b", printed))
+        yield f"{link} on {most} sheets", 1 <= sheets <= most, sheets
+    use.call("Emulation.setEmulatedMedia", media="print")
+    use.call("Emulation.setDeviceMetricsOverride", width=711, height=1000, deviceScaleFactor=1, mobile=False)
+    for path in ("types/wide", "catalogue/ll_sc_2", "types/three_shot"):
+        use.open(f"#example={path}&run=" if "wide" in path else f"#example={path}&run=0,1,1")
+        widths = use.value("[...document.querySelectorAll('html, #grid, #marks, .wide')].map(it => it.scrollWidth - it.clientWidth)")
+        yield f"{path}: nothing is cut", max(widths) <= 1, widths
+        text = use.value("(it => [it.checkVisibility(), it.scrollHeight - it.clientHeight])(document.getElementById('marks'))")
+        yield f"{path}: the whole text", text[0] and text[1] <= 1 and use.text("marks").rstrip() == use.table().rstrip(), text
+        cells = use.value("[...document.querySelectorAll('#grid td')].map(it => it.innerText.replace(/\\s/g, ''))")
+        wanted = [it.replace(">", "→") for row in use.value(CELLS) for it in row]
+        yield f"{path}: the whole grid", cells == wanted and cells, cells
+        controls = "[...document.querySelectorAll('input, select, textarea, button:not(.word)')]"
+        controls = use.value(f"{controls}.filter(it => it.checkVisibility()).map(it => it.outerHTML)")
+        yield f"{path}: no controls", controls == [], controls
+    use.call("Emulation.setEmulatedMedia", media="")
+    use.call("Emulation.clearDeviceMetricsOverride")
+
+
+def slides(use):
+    """One part alone, large."""
+    use.call("Emulation.setDeviceMetricsOverride", width=1920, height=1080, deviceScaleFactor=1, mobile=False)
+    size = "parseFloat(getComputedStyle(document.querySelector(%r)).fontSize)"
+    sizes = (("number", "#number", 150), ("number", "#meaning", 24), ("why", "#why p", 20), ("states", "#type-name", 24), ("run", ".decision", 20))
+    for view, place, least in sizes:
+        use.open(f"#example=types/three_shot&run=0,1&view={view}")
+        seen = use.value(size % place)
+        yield f"{place} in the view {view}", seen >= least, seen
+    use.open("#example=types/three_shot&view=states")
+    width, height = use.value("(it => [it.width, it.height])(document.querySelector('#picture svg').getBoundingClientRect())")
+    yield "the picture fills the view", height > 700, (width, height)
+    use.call("Emulation.clearDeviceMetricsOverride")
+
+
+def languages(use):
+    """The page in German, and back in English."""
+    use.open("#example=types/three_shot&run=0,1,x1&lang=de")
+    head = use.value("[document.documentElement.lang, document.querySelector('h1').textContent, document.title]")
+    yield "the page is German", head[0] == "de" and head[1].startswith("Wie viele Prozesse") and "einigen" in head[2], head
+    yield "with what was said before in English", use.text("meaning").startswith("3 Prozesse können sich einigen, durch"), use.text("meaning")
+    yield "the log too", use.texts(".log li")[2] == "Prozess 1: hält für immer an", use.texts(".log li")
+    yield "the link says so", use.until("location.hash.endsWith('&lang=de')", 5), use.value("location.hash")
+    empty = use.value("[...document.querySelectorAll('[data-text]')].filter(it => !it.textContent.trim()).map(it => it.dataset.text)")
+    yield "no text is empty", empty == [], empty
+    use.value("(it => { it.value = 'en'; it.dispatchEvent(new Event('change')); })(document.getElementById('language'))")
+    well = use.until(f"{READY} && document.documentElement.lang === 'en' && document.querySelectorAll('.log li').length === 3")
+    yield "and English again, with the same run", well and use.has_number("3"), use.value("location.hash")
+    use.open("#lang=xx")
+    yield "a language without texts", "language “xx”" in use.text("trouble") and use.is_hidden("content"), use.text("trouble")
+
+
+def foot(use):
+    """What is said at the end of the page, and the link at its beginning."""
+    use.open()
+    told = use.value("document.querySelector('footer').textContent")
+    program, _, proof = called(["--version"])[0].decode().strip().partition(", proved ")
+    yield "the page says what program is in it", f"come from the program {program}. It is proved ({proof})" in told, told
+    yield "and what it does not do", "each command of the program but serve" in told, told
+    use.value("document.getElementById('skip').focus()")
+    boxes = "['#skip', 'h1'].map(it => document.querySelector(it).getBoundingClientRect())"
+    meets = f"(([a, b]) => a.right > b.left && a.bottom > b.top && b.bottom > a.top)({boxes})"
+    tips = use.count("#picture .tip"), use.count("#picture .arrow"), use.count("#picture marker")
+    yield "each arrow has its head as a shape", tips[0] == tips[1] > 0 and tips[2] == 0, tips
+    yield "the skip link does not cover the heading", not use.value(meets), ""
+
+
+def quiet(use):
+    """What the browser reported in all of this."""
+    asked = [it["request"]["url"] for it in use.browser.told("Network.requestWillBeSent")]
+    here = ((TOP / "web").as_uri() + "/", pathlib.Path(tempfile.gettempdir()).as_uri() + "/", "blob:", "data:", "about:")
+    away = {it for it in asked if not it.startswith(here)}
+    yield "no request to anywhere", not away and asked, away
+    thrown = [it["exceptionDetails"].get("exception", {}).get("description", it) for it in use.browser.told("Runtime.exceptionThrown")]
+    yield "no exception", thrown == [], thrown
+    logged = [it["entry"]["text"] for it in use.browser.told("Log.entryAdded") if it["entry"]["level"] == "error"]
+    yield "no error is logged", logged == [], logged
+
+
+# What the copy of a page does with an answer of the program: in each text for people each word has another letter.
+PLANTED = """
+    const changed = text => text.replace(/\\b[a-z]{3,}\\b/g, word => `${word}z`);
+    function planted(words, { status, stdout, stderr }) {
+        const text = new TextDecoder().decode(stdout);
+        const isForm = words.includes('--as') || ['find', 'draw'].includes(words[0]);
+        const isLint = isForm && words[0] === 'lint' && text;
+        const flaws = isLint && JSON.parse(text).flaws.map(it => ({ ...it, text: changed(it.text) }));
+        const told = isLint ? JSON.stringify({ flaws }) : isForm ? text : changed(text);
+        return { status, stdout: encoder.encode(told), stderr };
+    }
+"""
+PLANTED_AT = "    return function run(words"
+ANSWERED = "return { status, stdout: joined(written[1]), stderr: joined(written[2]) };"
+SHOWN = """(() => {
+    const texts = selector => [...document.querySelectorAll(selector)].map(it => it.textContent);
+    const places = ['number', 'meaning', 'recoverable', 'limit-said', 'notes', 'fault'].map(it => document.getElementById(it).textContent);
+    const why = [...document.querySelectorAll('#why > :not(details)')].map(it => it.textContent);
+    return [places, why, texts('#marks mark'), texts('.log li'), texts('.decision'), texts('#protocol td'), texts('#comparison td')];
+})()"""
+
+
+def planted(use):
+    """A copy of the page whose program speaks otherwise: it shows the same numbers, reasons, places of flaws and runs."""
+    pages = {"web": TOP / "web/index.html"}
+    with tempfile.TemporaryDirectory() as room:
+        shutil.copytree(TOP / "web", f"{room}/web")
+        pages["copy"] = pathlib.Path(room, "web/index.html")
+        host = pages["copy"].parent / "page/host.js"
+        text = host.read_text()
+        yield "the host is as the copy wants it", text.count(PLANTED_AT) == text.count(ANSWERED) == 1, ""
+        answered = ANSWERED.replace("{ status", "planted(words, { status").replace("};", "});")
+        host.write_text(text.replace(PLANTED_AT, PLANTED + PLANTED_AT).replace(ANSWERED, answered))
+        lives = "types/three_shot&crashes=yes&run=0,1,1,1,c1,0,0,1"
+        for path in ("types/three_shot&run=0,1,x1,0,0,2", lives, "types/sticky_bit&run=1,1", "types/idle", "types/wide", "catalogue/queue_2"):
+            link, shown = f"#example={path}", {}
+            for name, page in pages.items():
+                use.open(link, page)
+                use.value("[...document.querySelectorAll('#comparison button')].find(it => it.textContent === 'Each pair of operations').click()")
+                use.until("document.querySelector('#comparison table') || document.querySelector('#comparison button').disabled", 20)
+                shown[name] = use.value(SHOWN)
+            yield f"{link} is shown the same", shown["web"] == shown["copy"] and shown["web"][1], shown
+        use.value("(() => { document.querySelector('#why details').open = true; })()")
+        use.until("document.querySelector('#why details pre').textContent")
+        yield "the copy speaks otherwise", "consensusz numberz" in use.text("why"), use.texts("#why details pre")
+        for table, _ in flawed(TYPES["test_and_set"]):
+            marks = {}
+            for name, page in pages.items():
+                use.open("", page)
+                use.give(table)
+                marks[name] = use.value(SHOWN)
+            yield f"the places of flaws of {table!r}", marks["web"] == marks["copy"] and marks["web"][2], marks
+
+
+ALL = (
+    first_answer, flaws, examples, meanings, pictures, picture_tools, words, grid, changes, comparisons, example_search, planted,
+    schedules, crashes, forgotten, pictured_runs, adversaries, keys, phone, links, certificates, explanations, searches, one_file, without, for_all,
+    paper, slides, languages, foot, quiet, on_a_server, missing_parts,
+)
+# The parts that also run in a browser that is not driven by DevTools.
+WITHOUT_DEVTOOLS = (
+    first_answer, meanings, pictures, words, grid, changes, comparisons, example_search, planted, schedules, crashes, forgotten,
+    pictured_runs, adversaries, keys, links, certificates, explanations, searches, one_file, languages, foot, on_a_server, missing_parts,
+)
