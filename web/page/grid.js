@@ -7,7 +7,8 @@ var Cnum = globalThis.Cnum || {};
 
     const { button, edits, element, say } = Cnum;
     const MOST_ON_PAPER = 6; // states of a grid for which half of a sheet is enough
-    const MOST = { states: 16, responses: 16, operation: 8 };
+    const [MOST_STATES, MOST_RESPONSES, MOST_OPERATIONS] = [16, 16, 8];
+    const MOST = { states: MOST_STATES, responses: MOST_RESPONSES, operation: MOST_OPERATIONS };
     const STEPS = { ArrowUp: [-1, 0], ArrowDown: [1, 0], ArrowLeft: [0, -1], ArrowRight: [0, 1] };
 
     // A field, and its value for paper, where there are no fields.

@@ -1,12 +1,19 @@
-/* Rounds of threads that decide by the file consensus.c, over objects of the table in table.h: rounds ROUNDS */
+/* Rounds of threads that decide by the file consensus.c, over objects of the table in table.h: rounds ROUNDS
+   After a second it goes on to LEAST rounds only, for a machine with other work. */
+#define _POSIX_C_SOURCE 200809L
 #include "consensus.c"
 #include "table.h"
 #include <pthread.h>
 #include <sched.h>
 #include <stdio.h>
 #include <stdlib.h>
+#include <time.h>
+
+enum { LEAST = 100 };
 
 static uint64_t rounds;
+static _Atomic uint64_t end;
+static time_t late;
 static struct consensus *all;
 static uint64_t *decided[CONSENSUS_PROCESSES];
 static _Atomic uint64_t come;
@@ -25,12 +32,23 @@ static unsigned read_state(void *self)
     return atomic_load((_Atomic unsigned char *)self);
 }
 
-/* Waits until all processes have come to this round. */
-static void meet(uint64_t round)
+static time_t seconds(void)
 {
+    struct timespec now;
+    clock_gettime(CLOCK_MONOTONIC, &now);
+    return now.tv_sec;
+}
+
+/* Waits until all processes have come to this round. Process 0 says before whether it is the last one. */
+static void meet(unsigned process, uint64_t round)
+{
+    if (process == 0 && round >= LEAST && round % 16 == 0 && seconds() > late)
+        atomic_store(&end, round + 1);
     atomic_fetch_add(&come, 1);
     for (unsigned looks = 0; atomic_load(&come) < (round + 1) * CONSENSUS_PROCESSES; looks++)
-        if (looks > 100)
+        if (looks > 1000)
+            nanosleep(&(struct timespec){0, 20000}, NULL);
+        else if (looks > 100)
             sched_yield();
 }
 
@@ -39,8 +57,8 @@ static void *decide_all(void *of)
 {
     uint64_t **mine = of;
     unsigned process = (unsigned)(mine - decided);
-    for (uint64_t round = 0; round < rounds; round++) {
-        meet(round);
+    for (uint64_t round = 0; round < atomic_load(&end); round++) {
+        meet(process, round);
         (*mine)[round] = consensus_decide(&all[round], process, round * CONSENSUS_PROCESSES + process);
     }
     return NULL;
@@ -65,6 +83,8 @@ int main(int count, char **words)
     pthread_t threads[CONSENSUS_PROCESSES];
     unsigned winners = 0, won[CONSENSUS_PROCESSES] = {0};
     rounds = count == 2 ? strtoull(words[1], NULL, 10) : 0;
+    end = rounds;
+    late = seconds() + 1;
     start();
     for (unsigned p = 0; p < CONSENSUS_PROCESSES; p++)
         decided[p] = malloc(rounds * sizeof *decided[p]);
@@ -72,13 +92,13 @@ int main(int count, char **words)
         pthread_create(&threads[p], NULL, decide_all, &decided[p]);
     for (unsigned p = 0; p < CONSENSUS_PROCESSES; p++)
         pthread_join(threads[p], NULL);
-    for (uint64_t round = 0; round < rounds; round++) {
+    for (uint64_t round = 0; round < end; round++) {
         uint64_t value = decided[0][round];
         for (unsigned p = 0; p < CONSENSUS_PROCESSES; p++)
             if (decided[p][round] != value || value / CONSENSUS_PROCESSES != round)
                 return 1;
         winners += !won[value % CONSENSUS_PROCESSES]++;
     }
-    printf("%llu rounds: %s\n", (unsigned long long)rounds, winners > 1 ? "agreed, with several winners" : "one winner");
+    printf("%llu rounds: %s\n", (unsigned long long)end, winners > 1 ? "agreed, with several winners" : "one winner");
     return 0;
 }

@@ -1,10 +1,14 @@
 //! Rounds of threads that decide by the file consensus.rs, over objects of the table in table.rs: rounds ROUNDS
+//! After a second it goes on to LEAST rounds only, for a machine with other work.
 mod consensus;
 mod table;
 
 use consensus::{Consensus, Object, PROCESSES, START};
 use std::sync::atomic::{AtomicU64, AtomicU8, Ordering::SeqCst};
 use std::thread;
+use std::time::{Duration, Instant};
+
+const LEAST: u64 = 100;
 
 /// An object: its state.
 struct Cell(AtomicU8);
@@ -22,15 +26,29 @@ impl Object for Cell {
     }
 }
 
-/// Waits until all processes have come to this round.
-fn meet(come: &AtomicU64, round: u64) {
-    come.fetch_add(1, SeqCst);
-    let all = (round + 1) * PROCESSES as u64;
-    let mut looks = 0;
-    while come.load(SeqCst) < all {
-        looks += 1;
-        if looks > 100 {
-            thread::yield_now();
+/// What the processes share: how many times one has come to a round, which round is behind the last one, and when it is late.
+struct Shared {
+    come: AtomicU64,
+    end: AtomicU64,
+    late: Instant,
+}
+
+impl Shared {
+    /// Waits until all processes have come to this round. Process 0 says before whether it is the last one.
+    fn meet(&self, process: u64, round: u64) {
+        if process == 0 && round >= LEAST && Instant::now() > self.late {
+            self.end.store(round + 1, SeqCst);
+        }
+        self.come.fetch_add(1, SeqCst);
+        let all = (round + 1) * PROCESSES as u64;
+        let mut looks = 0;
+        while self.come.load(SeqCst) < all {
+            looks += 1;
+            if looks > 1000 {
+                thread::sleep(Duration::from_micros(20));
+            } else if looks > 100 {
+                thread::yield_now();
+            }
         }
     }
 }
@@ -40,21 +58,27 @@ fn main() {
     let rounds: u64 = word.parse().expect("ROUNDS is a number");
     let start = |_| Cell(AtomicU8::new(START as u8));
     let all: Vec<_> = (0..rounds).map(|_| Consensus::new(std::array::from_fn(start))).collect();
-    let come = AtomicU64::new(0);
-    let (all, come, n) = (&all, &come, PROCESSES as u64);
+    let (come, end) = (AtomicU64::new(0), AtomicU64::new(rounds));
+    let late = Instant::now() + Duration::from_secs(1);
+    let (all, shared, n) = (&all, &Shared { come, end, late }, PROCESSES as u64);
     // In round r of n processes, process p proposes rn + p.
     let decide_all = |process: u64| -> Vec<u64> {
-        let decide = |(round, one): (u64, &Consensus<Cell>)| {
-            meet(come, round);
-            one.decide(process as usize, round * n + process)
-        };
-        (0..).zip(all).map(decide).collect()
+        let mut decided = Vec::new();
+        for (round, one) in (0..).zip(all) {
+            if round >= shared.end.load(SeqCst) {
+                break;
+            }
+            shared.meet(process, round);
+            decided.push(one.decide(process as usize, round * n + process));
+        }
+        decided
     };
     let decided: Vec<Vec<u64>> = thread::scope(|scope| {
         let threads: Vec<_> = (0..n).map(|p| scope.spawn(move || decide_all(p))).collect();
         threads.into_iter().map(|it| it.join().unwrap()).collect()
     });
     let mut firsts = vec![false; PROCESSES];
+    let rounds = shared.end.load(SeqCst);
     for round in 0..rounds {
         let value = decided[0][round as usize];
         assert!(decided.iter().all(|it| it[round as usize] == value), "round {round}: no agreement");

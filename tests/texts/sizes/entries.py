@@ -66,11 +66,11 @@ def collision(state, n):
 
 
 def shown(count):
-    """A type of 16 states and 8 operations with this number, and its certificate of version 1 for the limit above it."""
+    """A type of the most states and operations with this number, and its certificate of version 1 for the limit above it."""
     table = shots(count, 4, 14 - 2 * (count - 1))
     kind, n = Table(table), count + 1
     teams = [text(choice[1:])[1:-1] for choice in itertools.takewhile(lambda it: it[0] == 0, judge.choices(kind, n, False))]
-    entries = [f"[{s},{it},{end}" for s in range(16) for end in [text(collision(s, n))[1:]] for it in teams]
+    entries = [f"[{s},{it},{end}" for s in range(judge.MOST_STATES) for end in [text(collision(s, n))[1:]] for it in teams]
     witness = text([0, [0], [4] * (count - 1)])
     return table, Certificate(entries, f',"limit":{n},"number":{count},"type":"{kind.name}","version":1,"witness":{witness}}}')
 
@@ -93,7 +93,7 @@ def written(number, places, spellings):
     """A certificate with the collisions above, and as many entries as the type has canonical choices."""
     table, certificate = shown(number)
     count = len(certificate.entries)
-    assert count == counts.count(16, 8, number + 1)
+    assert count == counts.count(judge.MOST_STATES, judge.MOST_OPERATIONS, number + 1)
     yield f"{count} entries", lambda: checked(certificate.text(), table), OK
     for spelling in itertools.islice(certificate.spaced(), spellings):
         yield f"{count} entries, with a space", lambda spelling=spelling: checked(spelling, table), OK

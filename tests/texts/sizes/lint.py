@@ -3,6 +3,7 @@ import json
 import re
 
 from calls import TYPES, answer, called, fault
+from judge import MOST_OPERATIONS, MOST_RESPONSES, MOST_STATES
 from rows import printed
 from table import table_text
 
@@ -71,7 +72,7 @@ def flaws(name, states, responses, operations):
         for k, it in enumerate(texts):
             if not NAME.match(it):
                 yield "5 BadName", ["name"] if what == "name" else path_of(what, k), f'{what} "{it}": 1 to 32 of a-z, 0-9, _'
-    groups = (("states", states, 16), ("responses", responses, 16), ("operations", names, 8))
+    groups = (("states", states, MOST_STATES), ("responses", responses, MOST_RESPONSES), ("operations", names, MOST_OPERATIONS))
     for what, texts, most in groups:
         if not texts or len(texts) > most:
             yield "6 Count", ["operation" if what == "operations" else what], f"{len(texts)} {what}; at {f'most {most}' if texts else 'least 1'}"
@@ -89,7 +90,7 @@ def flaws(name, states, responses, operations):
                 yield "8 RowLength", ["operation", i, row], f"{called_so(i)}: {row} has {found}, {there}"
     for i, (_, *rows) in enumerate(operations):
         for row, entries, what, known in zip(("response", "next"), rows, ("response", "state"), (responses, states)):
-            told = f" ({', '.join(known)})" if len(known) <= 16 and all(map(NAME.match, known)) else ""
+            told = f" ({', '.join(known)})" if len(known) <= MOST_STATES and all(map(NAME.match, known)) else ""
             for k, it in enumerate(entries):
                 if it not in known:
                     yield "9 UnknownName", ["operation", i, row, k], f'{called_so(i)}, {row}[{k}]: "{it}" is no {what}{told}'
@@ -113,33 +114,36 @@ def row_of(states, unknown=()):
 
 
 def drafts():
-    """Drafts with the most names, one of which is wrong; and drafts with far more."""
-    names = [f"n{k}" for k in range(16)]
-    operations = lambda count, *rows: [(f"n{k}", *(rows or (row_of(16), row_of(16)))) for k in range(count)]
+    """Drafts with the most names, one of which is wrong; and drafts with far more. There may be as many states as responses."""
+    states, operations = MOST_STATES, MOST_OPERATIONS
+    assert states == MOST_RESPONSES
+    names, whole = [f"n{k}" for k in range(states)], row_of(states)
+    made = lambda count, *rows: [(f"n{k}", *(rows or (whole, whole))) for k in range(count)]
     changed = lambda texts, k, text: texts[:k] + [text] + texts[k + 1 :]
-    for k in range(15):
-        yield f"states 15 and {k}", ("t", changed(names, 15, names[k]), names, operations(8))
-        yield f"responses 15 and {k}", ("t", names, changed(names, 15, names[k]), operations(8))
-    for k in range(7):
-        yield f"operations 7 and {k}", ("t", names, names, changed(operations(8), 7, (f"n{k}", row_of(16), row_of(16))))
-    for k in range(16):
+    last, full = states - 1, made(operations)
+    for k in range(last):
+        yield f"states {last} and {k}", ("t", changed(names, last, names[k]), names, full)
+        yield f"responses {last} and {k}", ("t", names, changed(names, last, names[k]), full)
+    for k in range(operations - 1):
+        yield f"operations {operations - 1} and {k}", ("t", names, names, changed(full, operations - 1, (f"n{k}", whole, whole)))
+    for k in range(states):
         for row in ("response", "next"):
-            rows = [row_of(16, [k] if row == it else []) for it in ("response", "next")]
-            yield f"{row}[{k}]", ("t", names, names, changed(operations(8), 7, ("n7", *rows)))
-    for count in (1, 63, 64, 65, 128, 129, 255, 256):
-        unknown = [[k for k in range(16) if 32 * i + 16 * j + k < count] for i in range(8) for j in range(2)]
-        rows = [(f"n{i}", row_of(16, unknown[2 * i]), row_of(16, unknown[2 * i + 1])) for i in range(8)]
+            rows = [row_of(states, [k] if row == it else []) for it in ("response", "next")]
+            yield f"{row}[{k}]", ("t", names, names, changed(full, operations - 1, (f"n{operations - 1}", *rows)))
+    for count in (1, 63, 64, 65, 128, 129, 2 * states * operations - 1, 2 * states * operations):
+        unknown = [[k for k in range(states) if 2 * states * i + states * j + k < count] for i in range(operations) for j in range(2)]
+        rows = [(f"n{i}", row_of(states, unknown[2 * i]), row_of(states, unknown[2 * i + 1])) for i in range(operations)]
         yield f"{count} unknown entries", ("t", names, names, rows)
-    yield "all names alike", ("t", ["n0"] * 16, ["n0"] * 16, [("n0", row_of(16), row_of(16))] * 8)
-    for count in (0, 1, 15, 17, 1001):
-        yield f"rows of {count}", ("t", names, names, operations(2, row_of(count), row_of(count)))
-        yield f"states {count}", ("t", [f"n{k}" for k in range(count)], names, operations(1, row_of(16), row_of(16)))
-    for count in (17, 1001):
+    yield "all names alike", ("t", ["n0"] * states, ["n0"] * states, [("n0", whole, whole)] * operations)
+    for count in (0, 1, states - 1, states + 1, 1001):
+        yield f"rows of {count}", ("t", names, names, made(2, row_of(count), row_of(count)))
+        yield f"states {count}", ("t", [f"n{k}" for k in range(count)], names, made(1))
+    for count in (states + 1, 1001):
         many = [f"n{k}" for k in range(count)]
-        yield f"{count} responses", ("t", names, many, operations(1))
-        yield f"{count} bad names", ("T", [f"N{k}" for k in range(count)], names, operations(1))
-    for count in (9, 300):
-        yield f"{count} operations", ("t", ["n0"], ["n0"], operations(count, ["n0"], ["n0"]))
+        yield f"{count} responses", ("t", names, many, made(1))
+        yield f"{count} bad names", ("T", [f"N{k}" for k in range(count)], names, made(1))
+    for count in (operations + 1, 300):
+        yield f"{count} operations", ("t", ["n0"], ["n0"], made(count, ["n0"], ["n0"]))
     for length in (32, 33):
         yield f"names of {length} bytes", ("t" * length, ["n0", "s" * length], ["n0", "r" * length], [("o" * length, row_of(2, [1]), row_of(2))])
 
