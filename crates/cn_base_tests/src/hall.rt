@@ -1,9 +1,8 @@
 //! Calls on one thread, and calls that overlap on two.
-ghost use Rattle.std.specs.Prelude.{◌≡◌, ◌≤◌, ◌<◌, ◌+◌, All, IfOk, length};
+ghost use Rattle.std.specs.Prelude.{◌≡◌, ◌≤◌, ◌<◌, IfOk, length};
 ghost use Rattle.cn_choice.specs.declared.limits.TheConstants.{MOST_PROCESSES};
 ghost use Rattle.cn_log.specs.declared.limits.TheConstants.{MOST_SLOTS};
 ghost use Rattle.cn_proto.specs.Plan.{processes_of};
-ghost use Rattle.std.specs.Vec.{vec_capacity};
 ghost use Rattle.cn_hall.specs.Seats.{IsSeatOf};
 ghost use Rattle.cn_hall.specs.declared.call.Go.TheVariants.{On};
 
@@ -40,22 +39,19 @@ pub(super) fn core_after(
     Ok(core)
 }
 
-/// A hall over a core for n processes after these events, the seats of the last two processes, and
-/// the vector with the other seats.
+/// A hall over a core for n processes after these events, and the seats of the last two.
 pub(super) fn opened<R: Wait + Abort>(
     rt: &R,
     alloc: Global,
     n: u8,
     capacity: u16,
     events: &[Event],
-) -> Result<(Hall, Seat, Seat, Vec<Seat>), Fail>
+) -> Result<(Hall, Seat, Seat), Fail>
     requires some { (2 ≤ n) × (1 ≤ capacity) }
     requires few { (n ≤ MOST_PROCESSES) × (capacity ≤ MOST_SLOTS) }
     ensures of { IfOk result (λ r. IsSeatOf r.0 r.1 × IsSeatOf r.0 r.2) }
     ensures operation { IfOk result (λ r. (0 < length r.1.core.opening.object.operations)
         × (0 < length r.2.core.opening.object.operations)) }
-    ensures rest { IfOk result (λ r. All (IsSeatOf r.0) r.3.items
-        × (length r.3.items + 2 ≤ vec_capacity r.3)) }
 {
     let core = core_after(rt, alloc, n, capacity, events)?;
     let Ok((hall, mut seats)) = open(rt, alloc, core) else {
@@ -67,7 +63,7 @@ pub(super) fn opened<R: Wait + Abort>(
     let Some(other) = seats.pop() else {
         unreachable!()
     };
-    Ok((hall, other, last, seats))
+    Ok((hall, other, last))
 }
 
 /// Makes a call of the seat's process, which is in no call.
@@ -126,21 +122,21 @@ pub(super) fn reply(slot: u16, response: u8) -> Result<Reply, CallFault> {
     })
 }
 
-/// Closes the hall, and asserts that its schedule has these events, each this many times.
+/// Closes the hall with these two seats, and asserts that its schedule has these events, each this
+/// many times.
 fn close<R: Wait + Abort>(
     rt: &R,
     alloc: Global,
     hall: Hall,
-    last_two: (Seat, Seat),
-    others: Vec<Seat>,
+    other: Seat,
+    last: Seat,
     parts: &[(Event, u8)],
 ) -> Result<(), AllocError>
-    requires of { IsSeatOf hall last_two.0 × IsSeatOf hall last_two.1 }
-    requires rest { All (IsSeatOf hall) others.items × (length others.items + 2 ≤ vec_capacity others) }
+    requires { IsSeatOf hall other × IsSeatOf hall last }
 {
-    let mut seats = others;
-    seats.push_reserved(last_two.0);
-    seats.push_reserved(last_two.1);
+    let mut seats = Vec::with_capacity(alloc, 2)?;
+    seats.push_reserved(other);
+    seats.push_reserved(last);
     let core = hall.close(rt, seats);
     let expected = events_of(alloc, parts)?;
     assert!(rt; core.schedule() == expected.as_slice());
@@ -180,7 +176,7 @@ fn stops_at<R: Wait + Abort>(
     requires some { 2 ≤ n }
     requires few { n ≤ MOST_PROCESSES }
 {
-    let (hall, mut other, mut last, others) = opened(rt, alloc, n, 4, &[])?;
+    let (hall, mut other, mut last) = opened(rt, alloc, n, 4, &[])?;
     let mut gate = StopsAt {
         stop: u32::from(stop),
         last: Go::On,
@@ -203,7 +199,7 @@ fn stops_at<R: Wait + Abort>(
         (5 * n - 4).saturating_mul(slots),
         after,
     );
-    close(rt, alloc, hall, (other, last), others, &parts)?;
+    close(rt, alloc, hall, other, last, &parts)?;
     Ok(())
 }
 
@@ -276,20 +272,20 @@ fn overlap<R: Threads + Wait + Sync + Abort>(
 #[test]
 fn calls_overlap(rt: HostRuntime) -> Result<(), Fail> {
     let alloc = rt.alloc();
-    let (hall, zero, one, seats) = opened(&rt, alloc, 2, 4, &[])?;
+    let (hall, zero, one) = opened(&rt, alloc, 2, 4, &[])?;
     let ((mut zero, first), (mut one, second)) = overlap(&rt, &hall, zero, one);
     assert!(rt; first == reply(0, 0) && second == reply(0, 1));
     assert!(rt; zero.seen_len() == 2 && one.seen_len() == 2);
     assert!(rt; hall.meet(&rt, &mut zero, &mut one) == Order::Equal);
     let parts = one_within_another(1, 2, 0, 6, 4);
-    close(&rt, alloc, hall, (zero, one), seats, &parts)?;
+    close(&rt, alloc, hall, zero, one, &parts)?;
     Ok(())
 }
 
 #[test]
 fn finds_the_log_full(rt: HostRuntime) -> Result<(), Fail> {
     let alloc = rt.alloc();
-    let (hall, mut zero, mut one, seats) = opened(&rt, alloc, 2, 1, &[])?;
+    let (hall, mut zero, mut one) = opened(&rt, alloc, 2, 1, &[])?;
     assert_call(&rt, &hall, &mut one, reply(0, 0));
     assert_call(&rt, &hall, &mut zero, Err(CallFault::LogFull));
     assert_call(&rt, &hall, &mut zero, Err(CallFault::LogFull));
@@ -301,7 +297,7 @@ fn finds_the_log_full(rt: HostRuntime) -> Result<(), Fail> {
         (Event::Invoke(0, 0), 1),
         (Event::Step(0), 6),
     ];
-    close(&rt, alloc, hall, (zero, one), seats, &parts)?;
+    close(&rt, alloc, hall, zero, one, &parts)?;
     Ok(())
 }
 
@@ -310,12 +306,12 @@ fn opens_over_a_core_in_a_call(rt: HostRuntime) -> Result<(), Fail> {
     let alloc = rt.alloc();
     let before = [(Event::Invoke(0, 0), 1), (Event::Step(0), 3)];
     let events = events_of(alloc, &before)?;
-    let (hall, mut zero, mut one, seats) = opened(&rt, alloc, 2, 4, &events)?;
+    let (hall, mut zero, mut one) = opened(&rt, alloc, 2, 4, &events)?;
     assert!(rt; zero.in_call() && zero.seen_slots() == 0 && !one.in_call());
     assert_call(&rt, &hall, &mut one, reply(0, 1));
     assert!(rt; resume(&rt, &hall, &mut zero, &mut AlwaysOn) == reply(0, 0));
     let parts = one_within_another(0, 3, 1, 6, 3);
-    close(&rt, alloc, hall, (zero, one), seats, &parts)?;
+    close(&rt, alloc, hall, zero, one, &parts)?;
     Ok(())
 }
 
@@ -344,7 +340,8 @@ fn questions() -> [(u32, u16); 16] {
 /// The hall closes without the other seat.
 #[test]
 fn asks_before_each_step_of_two_slots(rt: HostRuntime) -> Result<(), Fail> {
-    let (hall, mut zero, mut one, mut seats) = opened(&rt, rt.alloc(), 2, 4, &[])?;
+    let (hall, mut zero, mut one) = opened(&rt, rt.alloc(), 2, 4, &[])?;
+    let mut seats = Vec::with_capacity(rt.alloc(), 1)?;
     assert_call(&rt, &hall, &mut zero, reply(0, 0));
     let mut gate = WritesDown {
         asked: [(0, 0); 16],

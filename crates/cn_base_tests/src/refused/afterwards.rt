@@ -36,7 +36,8 @@ fn events_of_a_log(rt: HostRuntime) -> Result<(), Fail> {
 #[test]
 fn calls_of_a_hall(rt: HostRuntime) -> Result<(), Fail> {
     let alloc = rt.alloc();
-    let (hall, mut zero, mut one, mut seats) = opened(&rt, alloc, 2, 4, &[])?;
+    let (hall, mut zero, mut one) = opened(&rt, alloc, 2, 4, &[])?;
+    let mut seats = Vec::with_capacity(alloc, 2)?;
     let mut gate = StopsAt {
         stop: 3,
         last: Go::On,
