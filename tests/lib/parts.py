@@ -1,12 +1,12 @@
 """Scripts that run others: shows what each prints, adds up the counts of the last lines, and says at the end what was left out."""
 import os
+import queue
 import re
 import signal
 import subprocess
 import sys
 import threading
 import time
-from concurrent.futures import ThreadPoolExecutor, wait
 
 import usage
 from built import TOP, built
@@ -78,19 +78,28 @@ class Parts:
             show(f"{usage.LINE.split()[0]}: {text}\n".encode(), *lines)
 
     def side_by_side(self, *lanes):
-        """Calls functions side by side, each of which holds commands. A signal that ends the script ends the commands first; those
-        that ran, or were to run, have failed."""
-        for it in (signal.SIGTERM, signal.SIGHUP):
-            signal.signal(it, lambda *_: sys.exit(1))
-        with ThreadPoolExecutor(len(lanes)) as pool:
-            ends = [pool.submit(lane) for lane in lanes]
+        """Calls functions side by side, each of which holds commands. A signal that would end the script ends the commands; those that
+        ran, or were to run, have failed."""
+        heard = queue.SimpleQueue()
+        for it in (signal.SIGINT, signal.SIGTERM, signal.SIGHUP):
+            signal.signal(it, lambda *_: heard.put("stop"))
+
+        def run(lane):
             try:
-                wait(ends)
-            except (KeyboardInterrupt, SystemExit):
+                lane()
+            except Exception as why:
+                self.failed += 1
+                self.say(repr(why))
+            heard.put("ended")
+
+        for lane in lanes:
+            threading.Thread(target=run, args=(lane,)).start()
+        ended = 0
+        while ended < len(lanes):
+            if heard.get() == "ended":
+                ended += 1
+            else:
                 self.stop()
-                wait(ends)
-            for it in ends:
-                it.result()
 
     def stop(self):
         """Ends the commands that run, and those that are to run as soon as they begin."""
