@@ -22,7 +22,7 @@ RunsReachConsensus = (p : RecordingPlan) (inputs : List ℕ) (schedule : List Ev
 given_plan : (t : TypeTable) (given : Option ℕ) (p : RecordingPlan) → GivesLivesPlan t given (Ok p)
     → IsRecordingPlan p
 given_plan t given p (inl fault) = absurd (cc fault.2)
-given_plan t given p (inr (n, count, is, rest)) = is
+given_plan t given p (inr (n, count, first)) = first.0
 
 pub reports_reach_consensus : RunsReachConsensus → (t : TypeTable) (inputs : List ℕ)
     (schedule : List Event) (asked : AskedLives) (report : Report)
@@ -31,5 +31,5 @@ pub reports_reach_consensus : RunsReachConsensus → (t : TypeTable) (inputs : L
     × IsLived p inputs schedule asked.steps asked.form (string_bytes report.text)
     × IsRecoverableConsensus p inputs schedule
 reports_reach_consensus reach t inputs schedule asked report (inl fault) = absurd (cc fault.2)
-reports_reach_consensus reach t inputs schedule asked report (inr (p, gives, lived, whole)) =
-    (p, gives, lived, reach p inputs schedule (given_plan t asked.processes p gives) lived.run)
+reports_reach_consensus reach t inputs schedule asked report (inr (p, gives, run)) =
+    (p, gives, run.0, reach p inputs schedule (given_plan t asked.processes p gives) run.0.run)
