@@ -1,4 +1,3 @@
 -- The reports of the commands.
-pub mod AcceptedWitnesses
 pub mod FoundCertificates
 pub mod Numbers

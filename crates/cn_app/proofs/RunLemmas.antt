@@ -7,9 +7,9 @@ use Rattle.cn_log.specs.Opening.{Log, Opening}
 use Rattle.cn_table.specs.TypeTable.{TypeTable}
 use Rattle.cn_cert.specs.Certificate.{Certificate}
 use Rattle.cn_form.specs.declared.plan_form.PlanForm.TheVariants as form
-use Rattle.cn_app.specs.Arguments.Calls.{GivesCalls, calls_in}
-use Rattle.cn_app.specs.Arguments.Events.{GivesCapacity, GivesEvents, events_in, words_of}
-use Rattle.cn_app.specs.Arguments.Lists.{GivesLists}
+use Rattle.cn_io.specs.Arguments.Calls.{GivesCalls, calls_in}
+use Rattle.cn_io.specs.Arguments.Events.{GivesCapacity, GivesEvents, events_in, words_of}
+use Rattle.cn_io.specs.Arguments.Lists.{GivesLists}
 use Rattle.cn_app.specs.Commands.Agree.{HasAgreeReport, IsAgreeReport}
 use Rattle.cn_form.specs.declared.answer_form.AnswerForm.TheVariants as answer
 use Rattle.cn_app.specs.Commands.Check.{HasCheckReport}
@@ -18,25 +18,25 @@ use Rattle.cn_app.specs.Commands.Replay.{HasReplayReport, IsReplayReport}
 use Rattle.cn_app.specs.Commands.Serve.{HasServeReport, IsServeReport}
 use Rattle.cn_app.specs.Commands.Show.{HasShowReport, IsShowReport}
 use Rattle.cn_app.specs.Runs.{HandsOn, OfBytes, Reads, ReadsCertificate, ReadsChecked, ReadsObject, ReadsOpening, ReadsTable, WritesReport, agree_of, check_of, decisions_in_lines, find_of, replay_of, serve_of, show_of}
-use Rattle.cn_app.specs.Steps.{Then}
-use Rattle.cn_app.specs.Streams.Reading.{FailsReading, Gives, HasRead}
-use Rattle.cn_app.specs.Streams.Writing.{IsUnwritten, Reports}
-use Rattle.cn_app.specs.Texts.Checked.{GivesCheck, GivesChecked}
-use Rattle.cn_app.specs.Texts.Contents.{GivesCertificate, GivesObject, GivesTable, value_in}
-use Rattle.cn_app.specs.Texts.Openings.{GivesOpening, OpensWith}
-use Rattle.cn_app.specs.declared.arguments.list_text.ListText.{ListText}
-use Rattle.cn_app.specs.declared.fault.AppFault.{AppFault}
-use Rattle.cn_app.specs.declared.fault.AppFault.TheVariants as fault
-use Rattle.cn_app.specs.declared.fault.Source.{Source}
-use Rattle.cn_app.specs.declared.fault.Source.TheVariants as source
-use Rattle.cn_app.specs.declared.readers.checked.Checked.{Checked}
-use Rattle.cn_app.specs.declared.readers.opening.OpeningArguments.{OpeningArguments}
-use Rattle.cn_app.specs.declared.report.Outcome.{Outcome}
-use Rattle.cn_app.specs.declared.report.Report.{Report}
-use Rattle.cn_app.specs.declared.streams.output.Output.{Output}
-use Rattle.cn_app.specs.declared.streams.text.Text.{Text}
-use Rattle.cn_app.specs.declared.threads.workers.ProcessHistory.{ProcessHistory}
-use Rattle.cn_app.proofs.StreamLemmas.KnownBytes.{reads_known_bytes}
+use Rattle.cn_io.specs.Steps.{Then}
+use Rattle.cn_io.specs.Streams.Reading.{FailsReading, Gives, HasRead}
+use Rattle.cn_io.specs.Streams.Writing.{IsUnwritten, Reports}
+use Rattle.cn_io.specs.Texts.Checked.{GivesCheck, GivesChecked}
+use Rattle.cn_io.specs.Texts.Contents.{GivesCertificate, GivesObject, GivesTable, value_in}
+use Rattle.cn_io.specs.Texts.Openings.{GivesOpening, OpensWith}
+use Rattle.cn_io.specs.declared.arguments.list_text.ListText.{ListText}
+use Rattle.cn_io.specs.declared.fault.AppFault.{AppFault}
+use Rattle.cn_io.specs.declared.fault.AppFault.TheVariants as fault
+use Rattle.cn_io.specs.declared.fault.Source.{Source}
+use Rattle.cn_io.specs.declared.fault.Source.TheVariants as source
+use Rattle.cn_io.specs.declared.readers.checked.Checked.{Checked}
+use Rattle.cn_io.specs.declared.readers.opening.OpeningArguments.{OpeningArguments}
+use Rattle.cn_io.specs.declared.report.Outcome.{Outcome}
+use Rattle.cn_io.specs.declared.report.Report.{Report}
+use Rattle.cn_io.specs.declared.streams.output.Output.{Output}
+use Rattle.cn_io.specs.declared.streams.text.Text.{Text}
+use Rattle.cn_service.specs.declared.workers.ProcessHistory.{ProcessHistory}
+use Rattle.cn_io.proofs.StreamLemmas.KnownBytes.{reads_known_bytes}
 
 -- what a text says of its bytes holds of those that its reader had left
 module _ {R X F : Type 0} (from : Source) (fault_of : F → AppFault) (reads : List ℕ → Result X F) (remaining : R → Option (List ℕ)) (old new : Text R)

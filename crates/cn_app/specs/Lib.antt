@@ -1,13 +1,5 @@
 pub mod Answers
-pub mod Arguments
 pub mod Commands
-pub mod FaultText
 pub mod Forms
-pub mod Hints
 pub mod Lines
-pub mod Outcomes
 pub mod Runs
-pub mod Steps
-pub mod Streams
-pub mod Texts
-pub mod Threads

@@ -7,29 +7,29 @@ use Rattle.cn_cert.specs.Certificate.{Certificate}
 use Rattle.cn_log.specs.Opening.{Log, Opening}
 use Rattle.cn_form.specs.declared.plan_form.PlanForm.TheVariants as form
 use Rattle.cn_form.specs.declared.answer_form.AnswerForm.TheVariants as answer
-use Rattle.cn_app.specs.Arguments.Calls.{GivesCalls, calls_in}
-use Rattle.cn_app.specs.Arguments.Events.{GivesCapacity, GivesEvents, events_in, words_of}
-use Rattle.cn_app.specs.Arguments.Lists.{GivesLists}
+use Rattle.cn_io.specs.Arguments.Calls.{GivesCalls, calls_in}
+use Rattle.cn_io.specs.Arguments.Events.{GivesCapacity, GivesEvents, events_in, words_of}
+use Rattle.cn_io.specs.Arguments.Lists.{GivesLists}
 use Rattle.cn_app.specs.Commands.Agree.{IsAgreeReport}
 use Rattle.cn_app.specs.Commands.Check.{IsCheckReport}
 use Rattle.cn_app.specs.Commands.Find.{IsFindReport}
 use Rattle.cn_app.specs.Commands.Replay.{IsReplayReport}
 use Rattle.cn_app.specs.Commands.Serve.{IsServeReport}
 use Rattle.cn_app.specs.Commands.Show.{IsShowReport}
-use Rattle.cn_app.specs.Steps.{Then}
-use Rattle.cn_app.specs.Texts.Checked.{GivesCheck}
-use Rattle.cn_app.specs.Texts.Contents.{certificate_in, object_in, table_in}
-use Rattle.cn_app.specs.Texts.Openings.{OpensWith}
-use Rattle.cn_app.specs.declared.arguments.list_text.ListText.{ListText}
-use Rattle.cn_app.specs.declared.fault.AppFault.{AppFault}
-use Rattle.cn_app.specs.declared.fault.AppFault.TheVariants.{OutOfMemory, Read, Write}
-use Rattle.cn_app.specs.declared.fault.Source.{Source}
-use Rattle.cn_app.specs.declared.fault.Source.TheVariants as source
-use Rattle.cn_app.specs.declared.readers.checked.Checked.{Checked}
-use Rattle.cn_app.specs.declared.report.Outcome.{Outcome}
-use Rattle.cn_app.specs.declared.report.Report.{Report}
+use Rattle.cn_io.specs.Steps.{Then}
+use Rattle.cn_io.specs.Texts.Checked.{GivesCheck}
+use Rattle.cn_io.specs.Texts.Contents.{certificate_in, object_in, table_in}
+use Rattle.cn_io.specs.Texts.Openings.{OpensWith}
+use Rattle.cn_io.specs.declared.arguments.list_text.ListText.{ListText}
+use Rattle.cn_io.specs.declared.fault.AppFault.{AppFault}
+use Rattle.cn_io.specs.declared.fault.AppFault.TheVariants.{OutOfMemory, Read, Write}
+use Rattle.cn_io.specs.declared.fault.Source.{Source}
+use Rattle.cn_io.specs.declared.fault.Source.TheVariants as source
+use Rattle.cn_io.specs.declared.readers.checked.Checked.{Checked}
+use Rattle.cn_io.specs.declared.report.Outcome.{Outcome}
+use Rattle.cn_io.specs.declared.report.Report.{Report}
 use Rattle.cn_app.specs.declared.reports.agree.AskedRun.{AskedRun}
-use Rattle.cn_app.specs.declared.threads.workers.ProcessHistory.{ProcessHistory}
+use Rattle.cn_service.specs.declared.workers.ProcessHistory.{ProcessHistory}
 
 -- these are all bytes that a reader has left, if those are known
 abbrev pub AreLeft : Option (List ℕ) → List ℕ → Type 0

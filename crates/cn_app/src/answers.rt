@@ -5,7 +5,7 @@ ghost use Rattle.cn_log.specs.Linearized.{IsLinearized};
 ghost use Rattle.cn_log.specs.Log.{IsEventList};
 ghost use Rattle.cn_log.specs.Opening.{setting, setting_of};
 ghost use Rattle.cn_log.specs.declared.event.Event.{Event as EventOf};
-ghost use Rattle.cn_lines.specs.Log.{HaveResponses};
+ghost use Rattle.cn_plan_text.specs.Log.{HaveResponses};
 ghost use Rattle.cn_app.specs.Answers.{ends_after, ends_by};
 
 use cn_log::laws::logs_are_linearized;

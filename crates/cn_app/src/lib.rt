@@ -30,36 +30,16 @@
 #![tactic(auto)]
 
 mod answers;
-mod arguments;
 pub mod commands;
-mod fault;
-mod hints;
-mod known;
-mod limits;
 mod lines;
-pub mod readers;
-mod report;
 pub mod reports;
 mod runs;
-mod streams;
-mod threads;
 
-pub use arguments::calls::{calls_in, read_calls};
-pub use arguments::events::{EventList, EventWord, read_events};
-pub use arguments::files::read_argument;
-pub use arguments::list_text::ListText;
-pub use arguments::lists::{read_inputs, read_schedule};
-pub use arguments::lives::read_life_schedule;
-pub use arguments::operations::{OperationName, OperationWord};
-pub use fault::{AppFault, Argument, Source};
-pub use hints::Hint;
-pub use known::Known;
-pub use limits::{
-    MOST_ARGUMENT_BYTES, MOST_CALLS, MOST_CERTIFICATE_BYTES, MOST_DIGITS, MOST_FILE_ITEMS,
-    MOST_ITEMS, MOST_TABLE_BYTES,
+pub use cn_io::{
+    AppFault, Argument, EventList, EventWord, Hint, Known, ListText, MOST_ARGUMENT_BYTES,
+    MOST_CALLS, MOST_CERTIFICATE_BYTES, MOST_DIGITS, MOST_FILE_ITEMS, MOST_ITEMS, MOST_TABLE_BYTES,
+    OperationName, OperationWord, Outcome, Output, Progress, Report, Source, Text, calls_in,
+    read_argument, read_calls, read_events, read_inputs, read_life_schedule, read_schedule,
+    readers,
 };
-pub use report::{Outcome, Report};
 pub use runs::{run_agree, run_check, run_find, run_replay, run_serve, run_show};
-pub use streams::output::Output;
-pub use streams::progress::Progress;
-pub use streams::text::Text;

@@ -28,6 +28,6 @@ pub use lives::{AskedLives, lives_report};
 pub use pairs::pairs_report;
 pub use replay::replay_report;
 pub use serve::serve_report;
-pub use show::show_report;
+pub use show::{plan_as, show_report};
 pub use why::why_report;
 pub use why_recoverable::why_recoverable_report;

@@ -1,6 +1,5 @@
 //! The table of judgements.
-ghost use Rattle.std.specs.Prelude.{◌≡◌, ◌<◌, ◌++◌, OnOk, flat_map, length, string_bytes};
-ghost use Rattle.std.specs.List.{range_with_len};
+ghost use Rattle.std.specs.Prelude.{◌≡◌, ◌<◌, ◌++◌, OnOk, length, string_bytes};
 ghost use Rattle.cn_proto.specs.Plan.{processes_of};
 ghost use Rattle.cn_code.specs.Code.{cell_code, cells_code, comma, judgements_code, response_code, role_code, role_head, row_code, rows_code};
 ghost use Rattle.cn_code.specs.Code.{state_of_a, states_of_a};
@@ -13,6 +12,7 @@ use cn_table::{Response, State};
 use std::alloc::AllocError;
 
 /// The judgements of all roles.
+#[tactic(auto, using(cn_table::proofs::Lines::lines_more))]
 pub(crate) fn push_judgements(
     text: &mut String,
     language: Language,
@@ -22,14 +22,6 @@ pub(crate) fn push_judgements(
         ≡ string_bytes text.old ++ judgements_code language plan.now) }
 {
     push_word(text, language, Part::Judgements)?;
-    push_roles(text, language, plan)
-}
-
-fn push_roles(text: &mut String, language: Language, plan: &Plan) -> Result<(), AllocError>
-    ensures { OnOk result (string_bytes text.new
-        ≡ string_bytes text.old
-        ++ flat_map (role_code language plan.now) (range_with_len 0 (processes_of plan.now))) }
-{
     for role in 0..plan.processes() {
         push_role(text, language, plan, role)?;
     }
@@ -64,6 +56,7 @@ fn push_role_head(
     push_word(text, language, Part::RoleStart)
 }
 
+#[tactic(auto, using(cn_table::proofs::Lines::lines_more))]
 fn push_rows(text: &mut String, language: Language, plan: &Plan, role: u8) -> Result<(), AllocError>
     requires { role < processes_of plan.now }
     ensures { OnOk result (string_bytes text.new
@@ -93,6 +86,7 @@ fn push_row(
     push_response(text, language, plan, role, response)
 }
 
+#[tactic(auto, using(cn_table::proofs::Lines::lines_more))]
 fn push_cells(
     text: &mut String,
     language: Language,
@@ -157,6 +151,7 @@ fn push_response(
     push_word(text, language, Part::LineEnd)
 }
 
+#[tactic(auto, using(cn_table::proofs::Lines::lines_more))]
 fn push_states_of_a(
     text: &mut String,
     plan: &Plan,

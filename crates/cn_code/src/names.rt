@@ -1,7 +1,6 @@
 //! The tables of names.
-ghost use Rattle.std.specs.Prelude.{◌≡◌, ◌<◌, ◌++◌, OnOk, Some, flat_map, length, slice_get, string_bytes};
-ghost use Rattle.std.specs.List.{range_with_len};
-ghost use Rattle.cn_code.specs.Code.{name_line, name_lines, names_code, names_of, part_of};
+ghost use Rattle.std.specs.Prelude.{◌≡◌, ◌<◌, ◌++◌, OnOk, Some, length, slice_get, string_bytes};
+ghost use Rattle.cn_code.specs.Code.{name_line, names_code, names_of, part_of};
 
 use crate::language::{Language, Part};
 use crate::words::{push_number, push_text, push_word};
@@ -30,6 +29,7 @@ impl Kind {
 }
 
 /// The table of these names, each with its number.
+#[tactic(auto, using(cn_table::proofs::Lines::lines_more))]
 pub(crate) fn push_names(
     text: &mut String,
     language: Language,
@@ -40,18 +40,6 @@ pub(crate) fn push_names(
         ≡ string_bytes text.old ++ names_code language table.now kind) }
 {
     push_word(text, language, kind.part())?;
-    push_name_lines(text, language, table, kind)
-}
-
-fn push_name_lines(
-    text: &mut String,
-    language: Language,
-    table: &Table,
-    kind: Kind,
-) -> Result<(), AllocError>
-    ensures { OnOk result (string_bytes text.new
-        ≡ string_bytes text.old ++ name_lines language (names_of table.now kind)) }
-{
     for number in 0..count_of(table, kind) {
         push_name_line(text, language, table, kind, number)?;
     }

@@ -1,6 +1,5 @@
 //! The table of places.
-ghost use Rattle.std.specs.Prelude.{◌≡◌, ◌<◌, ◌++◌, OnOk, flat_map, string_bytes};
-ghost use Rattle.std.specs.List.{range_with_len};
+ghost use Rattle.std.specs.Prelude.{◌≡◌, ◌<◌, ◌++◌, OnOk, string_bytes};
 ghost use Rattle.cn_proto.specs.Plan.{processes_of, protocol_of};
 ghost use Rattle.cn_proto.specs.Protocol.{place_of};
 ghost use Rattle.cn_proto.specs.Sound.{IsPlace};
@@ -13,6 +12,7 @@ use cn_proto::{Place, Plan};
 use std::alloc::AllocError;
 
 /// The places of all processes.
+#[tactic(auto, using(cn_table::proofs::Lines::lines_more))]
 pub(crate) fn push_places(
     text: &mut String,
     language: Language,
@@ -22,14 +22,6 @@ pub(crate) fn push_places(
         ≡ string_bytes text.old ++ places_code language plan.now) }
 {
     push_word(text, language, Part::Places)?;
-    push_paths(text, language, plan)
-}
-
-fn push_paths(text: &mut String, language: Language, plan: &Plan) -> Result<(), AllocError>
-    ensures { OnOk result (string_bytes text.new
-        ≡ string_bytes text.old
-        ++ flat_map (path_code language plan.now) (range_with_len 0 (processes_of plan.now))) }
-{
     for process in 0..plan.processes() {
         push_path(text, language, plan, process)?;
     }
@@ -37,6 +29,7 @@ fn push_paths(text: &mut String, language: Language, plan: &Plan) -> Result<(), 
 }
 
 /// The places of a process, from its lowest node to the root.
+#[tactic(auto, using(cn_table::proofs::Lines::lines_more))]
 fn push_path(
     text: &mut String,
     language: Language,

@@ -4,8 +4,8 @@ use Rattle.std.specs.Prelude.{option_map}
 use Rattle.cn_table.specs.TypeTable.{TypeTable}
 use Rattle.cn_search.specs.declared.exact.ConsensusNumber.{ConsensusNumber}
 use Rattle.cn_json.specs.declared.numbers.Classification.{Classification}
-use Rattle.cn_forms.specs.declared.numbers.TypeNumber.{TypeNumber}
-use Rattle.cn_forms.specs.declared.numbers.TypeNumber.TheVariants.{Exact, UpTo}
+use Rattle.cn_reasons.specs.declared.numbers.TypeNumber.{TypeNumber}
+use Rattle.cn_reasons.specs.declared.numbers.TypeNumber.TheVariants.{Exact, UpTo}
 use Rattle.cn_app.specs.Commands.Classify.{AreWordsFor, IsAskedNumber, IsClassificationOf, IsClassified, IsNumberFor, IsRecoverablyClassified, classification_line, line_of, line_with, line_with_both, number_words, words_of}
 
 -- the words of a number that is told are those of the number

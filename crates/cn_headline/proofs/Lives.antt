@@ -9,7 +9,7 @@ use Rattle.cn_lives.specs.Schedules.{named}
 use Rattle.cn_lives.specs.declared.schedule.Event.{Event}
 use Rattle.cn_life_laws.specs.Consensus.{IsRecoverableConsensus}
 use Rattle.cn_app.specs.Commands.Lives.{GivesLivesPlan, IsLived, IsLivesReport}
-use Rattle.cn_app.specs.declared.report.Report.{Report}
+use Rattle.cn_io.specs.declared.report.Report.{Report}
 use Rattle.cn_app.specs.declared.reports.lives.AskedLives.{AskedLives}
 
 -- a run without a fault is consensus

@@ -17,10 +17,10 @@ use Rattle.cn_app.specs.Commands.Classify.{AreWordsFor, given_limit_fault, numbe
 use Rattle.cn_headline.specs.ConsensusNumber.{IsBelow, IsNumberText, TellsNumber, TextAtLeast}
 use Rattle.cn_headline.specs.ConsensusNumber.{TextExactly, TextInfinite, TextRange, WordsTell}
 use Rattle.cn_headline.specs.ConsensusNumber.{range, told}
-use Rattle.cn_app.specs.FaultText.{plain_of}
-use Rattle.cn_app.specs.Texts.Contents.{table_in}
-use Rattle.cn_app.specs.declared.fault.AppFault.{AppFault}
-use Rattle.cn_app.specs.declared.fault.AppFault.TheVariants.{Table}
+use Rattle.cn_io.specs.FaultText.{plain_of}
+use Rattle.cn_io.specs.Texts.Contents.{table_in}
+use Rattle.cn_io.specs.declared.fault.AppFault.{AppFault}
+use Rattle.cn_io.specs.declared.fault.AppFault.TheVariants.{Table}
 use Rattle.cn_headline.proofs.NumberWords.{IsSmall, told_small, words_up_to}
 use Rattle.cn_headline.proofs.NumberWords.{same_at_least, same_exactly, same_range}
 use Rattle.cn_headline.proofs.NumberWords.{at_least_not_infinite, at_least_not_range}

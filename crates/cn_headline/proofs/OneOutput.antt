@@ -11,7 +11,7 @@ use Rattle.cn_proto.specs.Plan.{Plan, IsPlan}
 use Rattle.cn_recover.specs.Recording.{IsRecoverableNumberUpTo}
 use Rattle.cn_app.specs.Commands.Classify.{IsClassified, IsRecoverablyClassified, line_with, line_with_both, number_words}
 use Rattle.cn_app.specs.Commands.Find.{IsFound, IsFoundCertificate}
-use Rattle.cn_app.specs.Texts.Plans.{IsPlanOf}
+use Rattle.cn_io.specs.Texts.Plans.{IsPlanOf}
 
 pub one_found : ((t : TypeTable) (limit : ℕ) (f g : Finding) → IsFindingFor t limit f → IsFindingFor t limit g → f ≡ g)
     → (t : TypeTable) (limit : ℕ) (x y : List ℕ) → IsFound t limit x → IsFound t limit y → x ≡ y

@@ -1,13 +1,14 @@
 -- The decisions of processes, and the steps of a schedule, as JSON values.
 use Rattle.std.specs.Prelude.{ℕ, List, Option, Some, None, codes}
 use Rattle.serde_json.specs.Data.{Data, null, object, member, no_members}
-use Rattle.cn_table.specs.TypeTable.{TypeTable, operation_names}
-use Rattle.cn_table.specs.Names.{name_at}
+use Rattle.cn_table.specs.TypeTable.{TypeTable}
 use Rattle.cn_choice.specs.TeamNames.{team_name}
+use Rattle.cn_choice.specs.declared.team.Team.{Team}
 use Rattle.cn_agree.specs.Actions.{Course}
 use Rattle.cn_agree.specs.declared.next_action.Action.{Action}
 use Rattle.cn_agree.specs.declared.next_action.Action.TheVariants.{Write, Apply, Read, Take, Decide}
 use Rattle.cn_agree.specs.declared.next_action.StepRecord.{StepRecord}
+use Rattle.cn_json.specs.Names.{operation_data, response_data, state_data}
 use Rattle.cn_json.specs.Values.{list_data, number_data, text_data}
 
 -- the value that a process has decided, or null
@@ -16,37 +17,13 @@ decision_data None = null
 decision_data (Some value) = number_data value
 
 -- a process uses the register of a team
-abbrev pub register_data : List ℕ → ℕ → ℕ → List ℕ → ℕ → Data
+abbrev pub register_data : List ℕ → ℕ → ℕ → Team → ℕ → Data
 register_data action node process team value =
     object (member (codes "action") (text_data action)
     (member (codes "node") (number_data node)
     (member (codes "process") (number_data process)
-    (member (codes "team") (text_data team)
+    (member (codes "team") (text_data (team_name team))
     (member (codes "value") (number_data value) no_members)))))
-
--- a process applies its operation, and gets a response
-abbrev pub apply_data : ℕ → List ℕ → ℕ → List ℕ → Data
-apply_data node operation process response =
-    object (member (codes "action") (text_data (codes "apply"))
-    (member (codes "node") (number_data node)
-    (member (codes "operation") (text_data operation)
-    (member (codes "process") (number_data process)
-    (member (codes "response") (text_data response) no_members)))))
-
--- a process reads a state, and judges that a team came first
-abbrev pub read_data : List ℕ → ℕ → ℕ → List ℕ → Data
-read_data judged node process state =
-    object (member (codes "action") (text_data (codes "read"))
-    (member (codes "judged") (text_data judged)
-    (member (codes "node") (number_data node)
-    (member (codes "process") (number_data process)
-    (member (codes "state") (text_data state) no_members)))))
-
-abbrev pub decide_data : ℕ → ℕ → Data
-decide_data process value =
-    object (member (codes "action") (text_data (codes "decide"))
-    (member (codes "process") (number_data process)
-    (member (codes "value") (number_data value) no_members)))
 
 -- a process that has decided before
 abbrev pub idle_data : ℕ → Data
@@ -54,18 +31,27 @@ idle_data process =
     object (member (codes "action") (text_data (codes "none"))
     (member (codes "process") (number_data process) no_members))
 
--- an action of a process
+-- an action of a process: it uses a register, applies its operation and gets a response, reads a
+-- state and judges that a team came first, or decides
 abbrev pub action_data : TypeTable → ℕ → Action ℕ → Data
-action_data t process (Write node team value) =
-    register_data (codes "write") node process (team_name team) value
+action_data t process (Write node team value) = register_data (codes "write") node process team value
 action_data t process (Apply node operation response) =
-    apply_data node (name_at (operation_names t) operation.0) process
-    (name_at t.responses response.0)
-action_data t process (Read node state team) =
-    read_data (team_name team) node process (name_at t.states state.0)
-action_data t process (Take node team value) =
-    register_data (codes "take") node process (team_name team) value
-action_data t process (Decide value) = decide_data process value
+    object (member (codes "action") (text_data (codes "apply"))
+    (member (codes "node") (number_data node)
+    (member (codes "operation") (operation_data t operation)
+    (member (codes "process") (number_data process)
+    (member (codes "response") (response_data t response) no_members)))))
+action_data t process (Read node state judged) =
+    object (member (codes "action") (text_data (codes "read"))
+    (member (codes "judged") (text_data (team_name judged))
+    (member (codes "node") (number_data node)
+    (member (codes "process") (number_data process)
+    (member (codes "state") (state_data t state) no_members)))))
+action_data t process (Take node team value) = register_data (codes "take") node process team value
+action_data t process (Decide value) =
+    object (member (codes "action") (text_data (codes "decide"))
+    (member (codes "process") (number_data process)
+    (member (codes "value") (number_data value) no_members)))
 
 abbrev pub turn_data : TypeTable → ℕ → Option (Action ℕ) → Data
 turn_data t process None = idle_data process

@@ -1,8 +1,7 @@
 -- The events of a schedule of steps and crashes, as JSON values.
-use Rattle.std.specs.Prelude.{ℕ, List, codes}
+use Rattle.std.specs.Prelude.{ℕ, codes}
 use Rattle.serde_json.specs.Data.{Data, null, object, member, no_members}
 use Rattle.cn_table.specs.TypeTable.{TypeTable}
-use Rattle.cn_table.specs.Names.{name_at}
 use Rattle.cn_choice.specs.TeamNames.{team_name}
 use Rattle.cn_lives.specs.Courses.{LifeCourse}
 use Rattle.cn_lives.specs.declared.life_action.LifeAction.{LifeAction}
@@ -10,39 +9,29 @@ use Rattle.cn_lives.specs.declared.life_action.LifeAction.TheVariants.{Common, R
 use Rattle.cn_lives.specs.declared.life_action.LifeAction.TheVariants.{HasDecided, Crash}
 use Rattle.cn_lives.specs.declared.life_action.LifeRecord.{LifeRecord}
 use Rattle.cn_json.specs.Course.{action_data, decision_data, idle_data}
+use Rattle.cn_json.specs.Names.{state_data}
 use Rattle.cn_json.specs.Values.{list_data, number_data, text_data}
 
--- a process reads the start state before its operation, and judges no team
-abbrev pub start_data : ℕ → ℕ → List ℕ → Data
-start_data node process state =
+-- what a process does: an action of any process; it reads the start state before its operation, and
+-- judges no team; it reads the register of a team, which is empty; it has decided; or it crashes
+abbrev pub life_action_data : TypeTable → ℕ → LifeAction → Data
+life_action_data t process (Common action) = action_data t process action
+life_action_data t process (ReadStart node state) =
     object (member (codes "action") (text_data (codes "read"))
     (member (codes "judged") null
     (member (codes "node") (number_data node)
     (member (codes "process") (number_data process)
-    (member (codes "state") (text_data state) no_members)))))
-
--- a process reads the register of a team, which is empty
-abbrev pub empty_data : ℕ → ℕ → List ℕ → Data
-empty_data node process team =
+    (member (codes "state") (state_data t state) no_members)))))
+life_action_data t process (ReadEmpty node team) =
     object (member (codes "action") (text_data (codes "take"))
     (member (codes "node") (number_data node)
     (member (codes "process") (number_data process)
-    (member (codes "team") (text_data team)
+    (member (codes "team") (text_data (team_name team))
     (member (codes "value") null no_members)))))
-
-abbrev pub crash_data : ℕ → Data
-crash_data process =
+life_action_data t process HasDecided = idle_data process
+life_action_data t process Crash =
     object (member (codes "action") (text_data (codes "crash"))
     (member (codes "process") (number_data process) no_members))
-
--- what a process does
-abbrev pub life_action_data : TypeTable → ℕ → LifeAction → Data
-life_action_data t process (Common action) = action_data t process action
-life_action_data t process (ReadStart node state) =
-    start_data node process (name_at t.states state.0)
-life_action_data t process (ReadEmpty node team) = empty_data node process (team_name team)
-life_action_data t process HasDecided = idle_data process
-life_action_data t process Crash = crash_data process
 
 -- an event of a schedule
 abbrev pub life_step_data : TypeTable → LifeRecord → Data

@@ -4,8 +4,8 @@ use Rattle.serde_json.specs.Data.{Data, Members, object, member, no_members}
 use Rattle.cn_search.specs.declared.exact.ConsensusNumber.{ConsensusNumber}
 use Rattle.cn_search.specs.declared.exact.ConsensusNumber.TheVariants.{Finite, Infinite, Between}
 use Rattle.cn_json.specs.Values.{number_data, text_data}
-use Rattle.cn_forms.specs.declared.numbers.TypeNumber.{TypeNumber}
-use Rattle.cn_forms.specs.declared.numbers.TypeNumber.TheVariants.{Exact, UpTo}
+use Rattle.cn_reasons.specs.declared.numbers.TypeNumber.{TypeNumber}
+use Rattle.cn_reasons.specs.declared.numbers.TypeNumber.TheVariants.{Exact, UpTo}
 use Rattle.cn_json.specs.declared.numbers.Classification.{Classification}
 
 -- the ends of a range

@@ -8,6 +8,7 @@ ghost use Rattle.cn_json.specs.Tokens.{Appends, list_rest, member_tokens, member
 ghost use Rattle.cn_json.specs.Values.{list_data};
 
 use crate::json_text::JsonText;
+use crate::json_text::Primitive::{Byte, Number, Text};
 use cn_flaws::{Flaw, PathPart, Position};
 use std::alloc::{AllocError, Global};
 
@@ -42,10 +43,9 @@ fn write_path(out: &mut JsonText, path: &[PathPart]) -> Result<(), AllocError>
 fn write_flaw_members(out: &mut JsonText, flaw: &Flaw) -> Result<(), AllocError>
     ensures { Appends result out.old out.new (members_rest (flaw_members (flaw_view flaw.now))) }
 {
-    out.number_at("number", u64::from(flaw.fault.number()))?;
+    out.member("number", Byte(flaw.fault.number()))?;
     write_path(out, &flaw.path)?;
-    out.text_at("text", flaw.text.as_str())?;
-    out.end_object()
+    out.last_members(&[("text", Text(flaw.text.as_str()))])
 }
 
 /// Writes a flaw that has no line and no column.
@@ -54,7 +54,7 @@ fn write_flaw_of_document(out: &mut JsonText, flaw: &Flaw) -> Result<(), AllocEr
         (value_tokens (placed_data None (flaw_view flaw.now))) }
 {
     out.begin_object()?;
-    out.text_at("kind", flaw.fault.name())?;
+    out.member("kind", Text(flaw.fault.name()))?;
     write_flaw_members(out, flaw)
 }
 
@@ -64,9 +64,11 @@ fn write_flaw_of_text(out: &mut JsonText, flaw: &Flaw, position: Position) -> Re
         (value_tokens (placed_data (Some position) (flaw_view flaw.now))) }
 {
     out.begin_object()?;
-    out.number_at("column", position.column as u64)?;
-    out.text_at("kind", flaw.fault.name())?;
-    out.number_at("line", position.line as u64)?;
+    out.members(&[
+        ("column", Number(position.column as u64)),
+        ("kind", Text(flaw.fault.name())),
+        ("line", Number(position.line as u64)),
+    ])?;
     write_flaw_members(out, flaw)
 }
 

@@ -1,14 +1,25 @@
 //! JSON texts, written token by token.
-ghost use Rattle.std.specs.Prelude.{◌≡◌, ◌∷◌, [], decimal, string_bytes};
+ghost use Rattle.std.specs.Prelude.{◌≡◌, ◌++◌, ◌∷◌, [], decimal, string_bytes};
 ghost use Rattle.json.specs.Token.{begin_array, begin_object, boolean, end_array, end_object, key, null, number, string};
 ghost use Rattle.serde_json.specs.Data.{Data};
 ghost use Rattle.serde_json.specs.Written.{compact_text};
-ghost use Rattle.cn_json.specs.Tokens.{Appends, value_tokens};
-ghost use Rattle.cn_json.specs.Values.{number_data, text_data};
+ghost use Rattle.cn_json.specs.Tokens.{each_member, Appends, value_tokens};
+ghost use Rattle.cn_json.specs.Values.{primitive_data};
 
 use json::Writer;
 use std::alloc::{AllocError, Global};
 use std::marker::Model;
+
+/// A value that is neither an array nor an object.
+#[derive(Clone, Copy)]
+pub(crate) enum Primitive<'a> {
+    Text(&'a str),
+    Number(u64),
+    /// A number of one byte.
+    Byte(u8),
+    Boolean(bool),
+    Null,
+}
 
 /// A JSON text that is being written, as its tokens.
 #[derive(Drop)]
@@ -102,28 +113,55 @@ impl JsonText {
         self.writer.null()
     }
 
-    /// A key and a text.
-    pub(crate) fn text_at(&mut self, name: &str, text: &str) -> Result<(), AllocError>
-        ensures { Appends result self.old self.new (member_tokens name.now (text_data text.now)) }
+    fn primitive(&mut self, value: Primitive<'_>) -> Result<(), AllocError>
+        ensures { Appends result self.old self.new (value_tokens (primitive_data value.entry)) }
     {
-        self.key(name)?;
-        self.text(text)
+        match value {
+            Primitive::Text(text) => self.text(text),
+            Primitive::Number(n) => self.number(n),
+            Primitive::Byte(n) => self.number(u64::from(n)),
+            Primitive::Boolean(b) => self.boolean(b),
+            Primitive::Null => self.null(),
+        }
     }
 
-    /// A key and a number.
-    pub(crate) fn number_at(&mut self, name: &str, n: u64) -> Result<(), AllocError>
-        ensures { Appends result self.old self.new (member_tokens name.now (number_data n)) }
+    /// A key and a value.
+    pub(crate) fn member(&mut self, name: &str, value: Primitive<'_>) -> Result<(), AllocError>
+        ensures { Appends result self.old self.new
+            (member_tokens name.now (primitive_data value.entry)) }
     {
         self.key(name)?;
-        self.number(n)
+        self.primitive(value)
     }
 
-    /// A key and whether something holds.
-    pub(crate) fn boolean_at(&mut self, name: &str, b: bool) -> Result<(), AllocError>
-        ensures { Appends result self.old self.new (key name.now ∷ boolean b ∷ []) }
+    /// Keys and their values.
+    pub(crate) fn members(&mut self, members: &[(&str, Primitive<'_>)]) -> Result<(), AllocError>
+        ensures { Appends result self.old self.new (each_member members.now) }
     {
-        self.key(name)?;
-        self.boolean(b)
+        for (name, value) in members {
+            self.member(*name, *value)?;
+        }
+        Ok(())
+    }
+
+    /// The members that are left of an object, and its end.
+    pub(crate) fn last_members(
+        &mut self,
+        members: &[(&str, Primitive<'_>)],
+    ) -> Result<(), AllocError>
+        ensures { Appends result self.old self.new (each_member members.now ++ end_object ∷ []) }
+    {
+        self.members(members)?;
+        self.end_object()
+    }
+
+    /// An object with these members.
+    pub(crate) fn object(&mut self, members: &[(&str, Primitive<'_>)]) -> Result<(), AllocError>
+        ensures { Appends result self.old self.new
+            (begin_object ∷ (each_member members.now ++ end_object ∷ [])) }
+    {
+        self.begin_object()?;
+        self.last_members(members)
     }
 
     /// A key and the beginning of an array.

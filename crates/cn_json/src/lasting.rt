@@ -1,70 +1,26 @@
 //! Operations that last as JSON, with the states that each leaves.
-ghost use Rattle.std.specs.Prelude.{◌<◌, IfSome, length};
-ghost use Rattle.cn_stocks.specs.Leaving.{IsLasting};
-ghost use Rattle.cn_json.specs.Lasting.{last_data, lasting_data, state_data, states_in};
-ghost use Rattle.cn_json.specs.Tokens.{Appends, list_rest, value_tokens};
+ghost use Rattle.cn_reasons.specs.Known.{IsKnownLasting};
+ghost use Rattle.cn_json.specs.Lasting.{lasting_data};
 
 use crate::json_text::JsonText;
-use cn_outcomes::Bits;
-use cn_stocks::lasting::Lasting;
-use cn_table::{State, Table};
+use crate::json_text::Primitive::Text;
+use crate::value::JsonValue;
+use cn_reasons::LastingWitness;
+use cn_table::Table;
 use std::alloc::AllocError;
 
-/// Writes the states of the set, and the end of their array.
-pub(crate) fn write_each_state(
-    out: &mut JsonText,
-    table: &Table,
-    set: Bits,
-) -> Result<(), AllocError>
-    ensures { Appends result out.old out.new
-        (list_rest (state_data table.now) (states_in table.now set)) }
-{
-    for state in 0..table.states() {
-        if set.has(state) {
-            out.text(table.state_name(State(state)))?;
-        }
-    }
-    out.end_array()
-}
+impl JsonValue for LastingWitness {
+    ghost IsKnown = { IsKnownLasting };
 
-/// Writes two operations that last, with the states that the single one first, and the other
-/// first, lead to.
-fn write_last(
-    out: &mut JsonText,
-    table: &Table,
-    lasting: Lasting,
-    single: Bits,
-    many: Bits,
-) -> Result<(), AllocError>
-    requires { IsLasting table.now lasting }
-    ensures { Appends result out.old out.new
-        (value_tokens (last_data table.now lasting single many)) }
-{
-    out.begin_object()?;
-    out.text_at("many", table.operation_name(lasting.many))?;
-    out.begin_array_at("many_states")?;
-    write_each_state(out, table, many)?;
-    out.text_at("single", table.operation_name(lasting.single))?;
-    out.begin_array_at("single_states")?;
-    write_each_state(out, table, single)?;
-    out.text_at("start", table.state_name(lasting.start))?;
-    out.end_object()
-}
+    ghost json = { lasting_data };
 
-/// Writes the same, or null of a type with no operations that last.
-pub(crate) fn write_lasting(
-    out: &mut JsonText,
-    table: &Table,
-    lasting: Option<Lasting>,
-    single: Bits,
-    many: Bits,
-) -> Result<(), AllocError>
-    requires { IfSome lasting (IsLasting table.now) }
-    ensures { Appends result out.old out.new
-        (value_tokens (lasting_data table.now lasting single many)) }
-{
-    match lasting {
-        Some(lasting) => write_last(out, table, lasting, single, many),
-        None => out.null(),
+    fn write(&self, out: &mut JsonText, table: &Table) -> Result<(), AllocError> {
+        let lasting = self.lasting;
+        out.begin_object()?;
+        out.member("many", Text(table.operation_name(lasting.many)))?;
+        out.array_at("many_states", table, &self.many_states)?;
+        out.member("single", Text(table.operation_name(lasting.single)))?;
+        out.array_at("single_states", table, &self.single_states)?;
+        out.last_members(&[("start", Text(table.state_name(lasting.start)))])
     }
 }

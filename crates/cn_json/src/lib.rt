@@ -4,8 +4,9 @@
 //! [`classification_json`] writes the numbers of a type, [`verdict_json`] the verdict on a
 //! certificate, [`flaws_json`] the flaws of the text of a table, [`course_json`] the decisions and
 //! the steps of processes, [`log_json`] and [`service_json`] what happened in a log,
-//! [`explanation_json`] and [`recoverable_explanation_json`] why a number is what it is, and
-//! [`pairs_json`] the numbers of operations and of their pairs. Each text is that of a JSON value, which is a function of the answer.
+//! [`explanation_json`] and [`recoverable_explanation_json`] why a number is what it is,
+//! [`pairs_json`] the numbers of operations and of their pairs, and [`plan_json`] a plan. Each text
+//! is that of a JSON value, which is a function of the answer.
 //!
 //! ```text
 //! println!(rt; "{}", verdict_json(alloc, check(&table, &certificate))?)?;
@@ -13,7 +14,7 @@
 //! ```
 #![tactic(auto)]
 
-mod apart;
+mod choice;
 mod collisions;
 mod course;
 mod explanation;
@@ -22,13 +23,16 @@ mod json_text;
 mod lasting;
 mod lives;
 mod log;
+mod names;
 mod numbers;
 mod pairs;
+mod plan;
 mod recoverable;
+mod value;
 mod verdict;
 mod witness;
 
-pub use cn_forms::TypeNumber;
+pub use cn_reasons::TypeNumber;
 pub use course::{course_json, decisions_json};
 pub use explanation::explanation_json;
 pub use flaws::flaws_json;
@@ -36,5 +40,6 @@ pub use lives::life_course_json;
 pub use log::{AnswerOf, log_json, service_json};
 pub use numbers::{Classification, classification_json};
 pub use pairs::pairs_json;
+pub use plan::plan_json;
 pub use recoverable::recoverable_explanation_json;
 pub use verdict::{unread_json, verdict_json};

@@ -1,17 +1,19 @@
 //! What happened in a log as JSON: its calls, its entries and its events.
-ghost use Rattle.std.specs.Prelude.{◌≡◌, ◌<◌, All, IfOk, IfSome, length, string_bytes};
+ghost use Rattle.std.specs.Prelude.{◌≡◌, ◌<◌, ◌∷◌, All, IfOk, IfSome, codes, length, string_bytes};
+ghost use Rattle.json.specs.Token.{begin_object};
 ghost use Rattle.serde_json.specs.Written.{compact_text};
-ghost use Rattle.cn_table.specs.Names.{name_at};
 ghost use Rattle.cn_log.specs.CallEnds.{EndsWithResponse};
 ghost use Rattle.cn_log.specs.Linearized.{entry_slots};
 ghost use Rattle.cn_log.specs.Log.{entries};
 ghost use Rattle.cn_log.specs.Opening.{setting};
-ghost use Rattle.cn_lines.specs.Events.{event_text};
-ghost use Rattle.cn_json.specs.Log.{answer_data, entries_list, event_data, log_data, placed_data, reply_data, service_data, unanswered_data, HaveResponses};
-ghost use Rattle.cn_json.specs.Tokens.{Appends, list_rest, value_tokens, values_rest};
+ghost use Rattle.cn_json.specs.Log.{answer_data, entries_list, event_data, event_text, log_data, placed_data, service_data, unanswered_data, HaveResponses};
+ghost use Rattle.cn_json.specs.Tokens.{Appends, list_rest, member_tokens, value_tokens, values_rest};
+ghost use Rattle.cn_json.specs.Values.{list_data};
 
 use crate::json_text::JsonText;
-use cn_log::{CallEnd, Entry, Event, LogCore, Reply};
+use crate::json_text::Primitive::{Byte, Number, Text};
+use crate::value::JsonValue;
+use cn_log::{CallEnd, Entry, Event, LogCore};
 use cn_table::{Response, State, Table};
 use std::alloc::{AllocError, Global};
 
@@ -24,59 +26,31 @@ pub struct AnswerOf {
     pub end: Option<CallEnd>,
 }
 
-fn write_reply(
-    out: &mut JsonText,
-    object: &Table,
-    process: u8,
-    reply: Reply,
-) -> Result<(), AllocError>
-    requires { reply.response.0 < length object.now.responses }
-    ensures { Appends result out.old out.new
-        (value_tokens (reply_data process (name_at object.now.responses reply.response.0)
-        reply.slot)) }
-{
-    out.begin_object()?;
-    out.text_at("end", "answered")?;
-    out.number_at("process", u64::from(process))?;
-    out.text_at("response", object.response_name(reply.response))?;
-    out.number_at("slot", u64::from(reply.slot))?;
-    out.end_object()
-}
-
 /// Writes a call with no response.
 fn write_unanswered(out: &mut JsonText, end: &str, process: u8) -> Result<(), AllocError>
     ensures { Appends result out.old out.new (value_tokens (unanswered_data end.now process)) }
 {
-    out.begin_object()?;
-    out.text_at("end", end)?;
-    out.number_at("process", u64::from(process))?;
-    out.end_object()
+    out.object(&[("end", Text(end)), ("process", Byte(process))])
 }
 
-fn write_answer(out: &mut JsonText, object: &Table, answer: AnswerOf) -> Result<(), AllocError>
-    requires { IfSome answer.end (EndsWithResponse object.now) }
-    ensures { Appends result out.old out.new (value_tokens (answer_data object.now answer)) }
-{
-    match answer.end {
-        Some(CallEnd::Answered(reply)) => write_reply(out, object, answer.process, reply),
-        Some(CallEnd::Full) => write_unanswered(out, "full", answer.process),
-        None => write_unanswered(out, "stopped", answer.process),
-    }
-}
+impl JsonValue for AnswerOf {
+    ghost IsKnown = { λ t answer. IfSome answer.end (EndsWithResponse t) };
 
-/// Writes the calls that ended, and the end of their array.
-fn write_each_answer(
-    out: &mut JsonText,
-    object: &Table,
-    answers: &[AnswerOf],
-) -> Result<(), AllocError>
-    requires { HaveResponses object.now answers.now }
-    ensures { Appends result out.old out.new (list_rest (answer_data object.now) answers.now) }
-{
-    for answer in answers {
-        write_answer(out, object, *answer)?;
+    ghost json = { answer_data };
+
+    fn write(&self, out: &mut JsonText, table: &Table) -> Result<(), AllocError> {
+        let process = self.process;
+        match self.end {
+            Some(CallEnd::Answered(reply)) => out.object(&[
+                ("end", Text("answered")),
+                ("process", Byte(process)),
+                ("response", Text(table.response_name(reply.response))),
+                ("slot", Number(u64::from(reply.slot))),
+            ]),
+            Some(CallEnd::Full) => write_unanswered(out, "full", process),
+            None => write_unanswered(out, "stopped", process),
+        }
     }
-    out.end_array()
 }
 
 /// Writes an entry in a slot, with the response of the object and the state after it.
@@ -93,13 +67,13 @@ fn write_entry(
     ensures { Appends result out.old out.new
         (value_tokens (placed_data object.now slot entry (given.0.0, given.1.0))) }
 {
-    out.begin_object()?;
-    out.text_at("operation", object.operation_name(entry.operation))?;
-    out.number_at("process", u64::from(entry.process))?;
-    out.text_at("response", object.response_name(given.0))?;
-    out.number_at("slot", u64::from(slot))?;
-    out.text_at("state", object.state_name(given.1))?;
-    out.end_object()
+    out.object(&[
+        ("operation", Text(object.operation_name(entry.operation))),
+        ("process", Byte(entry.process)),
+        ("response", Text(object.response_name(given.0))),
+        ("slot", Number(u64::from(slot))),
+        ("state", Text(object.state_name(given.1))),
+    ])
 }
 
 /// Writes the entries, and the end of their array.
@@ -154,6 +128,20 @@ fn write_each_event(alloc: Global, out: &mut JsonText, events: &[Event]) -> Resu
     out.end_array()
 }
 
+/// Writes the beginning of an object: the calls that ended.
+fn begin_with_answers(
+    out: &mut JsonText,
+    object: &Table,
+    answers: &[AnswerOf],
+) -> Result<(), AllocError>
+    requires { HaveResponses object.now answers.now }
+    ensures { Appends result out.old out.new (begin_object
+        ∷ member_tokens (codes "answers") (list_data (answer_data object.now) answers.now)) }
+{
+    out.begin_object()?;
+    out.array_at("answers", object, answers)
+}
+
 fn write_log(
     out: &mut JsonText,
     object: &Table,
@@ -170,9 +158,7 @@ fn write_log(
         (entries (setting core.now) core.now.schedule)
         (entry_slots (setting core.now) core.now.schedule))) }
 {
-    out.begin_object()?;
-    out.begin_array_at("answers")?;
-    write_each_answer(out, object, answers)?;
+    begin_with_answers(out, object, answers)?;
     out.begin_array_at("entries")?;
     write_each_entry(out, object, start, core)?;
     out.end_object()
@@ -195,9 +181,7 @@ fn write_service(
         (entries (setting core.now) core.now.schedule)
         (entry_slots (setting core.now) core.now.schedule) core.now.schedule)) }
 {
-    out.begin_object()?;
-    out.begin_array_at("answers")?;
-    write_each_answer(out, object, answers)?;
+    begin_with_answers(out, object, answers)?;
     out.begin_array_at("entries")?;
     write_each_entry(out, object, start, core)?;
     out.begin_array_at("events")?;

@@ -1,11 +1,12 @@
 //! The numbers of a type as JSON.
 ghost use Rattle.std.specs.Prelude.{◌≡◌, IfOk, string_bytes};
 ghost use Rattle.serde_json.specs.Written.{compact_text};
-ghost use Rattle.cn_json.specs.Numbers.{at_least_data, classification_data, exact_data, limited_data, range_data, recoverable_members, type_number_data};
+ghost use Rattle.cn_json.specs.Numbers.{classification_data, exact_data, limited_data, recoverable_members, type_number_data};
 ghost use Rattle.cn_json.specs.Tokens.{Appends, members_rest, value_tokens};
 
 use crate::json_text::JsonText;
-use cn_forms::TypeNumber;
+use crate::json_text::Primitive::{Byte, Text};
+use cn_reasons::TypeNumber;
 use cn_search::ConsensusNumber;
 use std::alloc::{AllocError, Global};
 
@@ -20,23 +21,6 @@ pub struct Classification<'a> {
     pub recoverable: Option<TypeNumber>,
 }
 
-fn write_range(out: &mut JsonText, least: u8, most: u8) -> Result<(), AllocError>
-    ensures { Appends result out.old out.new (value_tokens (range_data least most)) }
-{
-    out.begin_object()?;
-    out.number_at("from", u64::from(least))?;
-    out.number_at("to", u64::from(most))?;
-    out.end_object()
-}
-
-fn write_at_least(out: &mut JsonText, n: u8) -> Result<(), AllocError>
-    ensures { Appends result out.old out.new (value_tokens (at_least_data n)) }
-{
-    out.begin_object()?;
-    out.number_at("at_least", u64::from(n))?;
-    out.end_object()
-}
-
 /// Writes a number with no limit: the number; `"infinite"`; or `{"from":N,"to":M}`.
 pub(crate) fn write_exact(out: &mut JsonText, number: ConsensusNumber) -> Result<(), AllocError>
     ensures { Appends result out.old out.new (value_tokens (exact_data number)) }
@@ -44,7 +28,10 @@ pub(crate) fn write_exact(out: &mut JsonText, number: ConsensusNumber) -> Result
     match number {
         ConsensusNumber::Finite(n) => out.number(u64::from(n)),
         ConsensusNumber::Infinite => out.text("infinite"),
-        ConsensusNumber::Between(least, most) => write_range(out, least, most),
+        ConsensusNumber::Between(least, most) => out.object(&[
+            ("from", Byte(least)),
+            ("to", Byte(most)),
+        ]),
     }
 }
 
@@ -56,7 +43,7 @@ fn write_limited(out: &mut JsonText, limit: u8, number: Option<u8>) -> Result<()
     match number {
         None => out.number(1),
         Some(n) if n < limit => out.number(u64::from(n)),
-        Some(n) => write_at_least(out, n),
+        Some(n) => out.object(&[("at_least", Byte(n))]),
     }
 }
 
@@ -89,7 +76,7 @@ fn write_classification(
         (value_tokens (classification_data classification.entry)) }
 {
     out.begin_object()?;
-    out.text_at("name", classification.name)?;
+    out.member("name", Text(classification.name))?;
     out.key("number")?;
     write_type_number(out, classification.number)?;
     write_recoverable(out, classification.recoverable)

@@ -3,82 +3,39 @@ ghost use Rattle.std.specs.Prelude.{◌≡◌, ◌≢◌, [], All, IfOk, string_
 ghost use Rattle.serde_json.specs.Written.{compact_text};
 ghost use Rattle.cn_pairs.specs.SetNumbers.{AreSetNumbers, set_lists};
 ghost use Rattle.cn_pairs.specs.Smallest.{AreSmallest};
-ghost use Rattle.cn_json.specs.Pairs.{AreKnown, name_data, names_data, pairs_data, set_data, set_number_data};
-ghost use Rattle.cn_json.specs.Tokens.{Appends, list_rest, value_tokens};
+ghost use Rattle.cn_json.specs.Pairs.{pairs_data, set_data, set_number_data, AreKnown};
+ghost use Rattle.cn_json.specs.Tokens.{Appends, value_tokens};
 
 use crate::json_text::JsonText;
+use crate::json_text::Primitive::Text;
 use crate::numbers::write_exact;
+use crate::value::JsonValue;
 use cn_pairs::{Pairs, SetNumber};
 use cn_table::{Operation, Table};
 use std::alloc::{AllocError, Global};
 
-/// Writes the names of the operations, and the end of their array.
-fn write_each_name(
-    out: &mut JsonText,
-    table: &Table,
-    operations: &[Operation],
-) -> Result<(), AllocError>
-    requires { AreKnown table.now operations.now }
-    ensures { Appends result out.old out.new (list_rest (name_data table.now) operations.now) }
-{
-    for operation in operations {
-        out.text(table.operation_name(*operation))?;
+impl JsonValue for Vec<Operation> {
+    ghost IsKnown = { λ t set. AreKnown t set.items };
+
+    ghost json = { set_data };
+
+    fn write(&self, out: &mut JsonText, table: &Table) -> Result<(), AllocError> {
+        out.array(table, self)
     }
-    out.end_array()
 }
 
-pub(crate) fn write_set(
-    out: &mut JsonText,
-    table: &Table,
-    set: &[Operation],
-) -> Result<(), AllocError>
-    requires { AreKnown table.now set.now }
-    ensures { Appends result out.old out.new (value_tokens (names_data table.now set.now)) }
-{
-    out.begin_array()?;
-    write_each_name(out, table, set)
-}
+impl JsonValue for SetNumber {
+    ghost IsKnown = { λ t s. AreKnown t s.operations.items };
 
-/// Writes the sets, and the end of their array.
-fn write_each_set(
-    out: &mut JsonText,
-    table: &Table,
-    sets: &[Vec<Operation>],
-) -> Result<(), AllocError>
-    requires { All (λ set. AreKnown table.now set.items) sets.now }
-    ensures { Appends result out.old out.new (list_rest (set_data table.now) sets.now) }
-{
-    for set in sets {
-        write_set(out, table, set.as_slice())?;
+    ghost json = { set_number_data };
+
+    fn write(&self, out: &mut JsonText, table: &Table) -> Result<(), AllocError> {
+        out.begin_object()?;
+        out.key("number")?;
+        write_exact(out, self.number)?;
+        out.array_at("operations", table, &self.operations)?;
+        out.end_object()
     }
-    out.end_array()
-}
-
-fn write_set_number(out: &mut JsonText, table: &Table, set: &SetNumber) -> Result<(), AllocError>
-    requires { AreKnown table.now set.now.operations.items }
-    ensures { Appends result out.old out.new (value_tokens (set_number_data table.now set.now)) }
-{
-    out.begin_object()?;
-    out.key("number")?;
-    write_exact(out, set.number)?;
-    out.key("operations")?;
-    write_set(out, table, set.operations.as_slice())?;
-    out.end_object()
-}
-
-/// Writes the sets with their numbers, and the end of their array.
-fn write_each_set_number(
-    out: &mut JsonText,
-    table: &Table,
-    sets: &[SetNumber],
-) -> Result<(), AllocError>
-    requires { All (λ s. AreKnown table.now s.operations.items) sets.now }
-    ensures { Appends result out.old out.new (list_rest (set_number_data table.now) sets.now) }
-{
-    for set in sets {
-        write_set_number(out, table, set)?;
-    }
-    out.end_array()
 }
 
 fn write_pairs(out: &mut JsonText, table: &Table, pairs: &Pairs) -> Result<(), AllocError>
@@ -88,15 +45,12 @@ fn write_pairs(out: &mut JsonText, table: &Table, pairs: &Pairs) -> Result<(), A
     ensures { Appends result out.old out.new (value_tokens (pairs_data table.now pairs.now)) }
 {
     out.begin_object()?;
-    out.begin_array_at("alone")?;
-    write_each_set_number(out, table, pairs.alone.as_slice())?;
-    out.text_at("name", table.name())?;
+    out.array_at("alone", table, &pairs.alone)?;
+    out.member("name", Text(table.name()))?;
     out.key("number")?;
     write_exact(out, pairs.number)?;
-    out.begin_array_at("pairs")?;
-    write_each_set_number(out, table, pairs.pairs.as_slice())?;
-    out.begin_array_at("smallest")?;
-    write_each_set(out, table, pairs.smallest.as_slice())?;
+    out.array_at("pairs", table, &pairs.pairs)?;
+    out.array_at("smallest", table, &pairs.smallest)?;
     out.end_object()
 }
 

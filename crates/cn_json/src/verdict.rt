@@ -3,9 +3,9 @@ ghost use Rattle.std.specs.Prelude.{◌≡◌, IfOk, string_bytes};
 ghost use Rattle.serde_json.specs.Written.{compact_text};
 ghost use Rattle.cn_json.specs.Tokens.{Appends, value_tokens};
 ghost use Rattle.cn_json.specs.Verdict.{accepted_data, fault_data, fault_of_entry, fault_of_process, named_fault, refused_data, unread_data, verdict_data};
-ghost use Rattle.cn_cert.specs.FaultText.{cert_fault_name, cert_fault_number};
 
 use crate::json_text::JsonText;
+use crate::json_text::Primitive::{Boolean, Byte, Number, Text};
 use cn_cert::CertFault;
 use cn_check::CheckFault;
 use std::alloc::{AllocError, Global};
@@ -13,10 +13,7 @@ use std::alloc::{AllocError, Global};
 fn write_named_fault(out: &mut JsonText, name: &str, number: u8) -> Result<(), AllocError>
     ensures { Appends result out.old out.new (value_tokens (named_fault name.now number)) }
 {
-    out.begin_object()?;
-    out.text_at("name", name)?;
-    out.number_at("number", u64::from(number))?;
-    out.end_object()
+    out.object(&[("name", Text(name)), ("number", Byte(number))])
 }
 
 /// Writes a fault of the entry at a place.
@@ -29,11 +26,11 @@ fn write_fault_of_entry(
     ensures { Appends result out.old out.new
         (value_tokens (fault_of_entry place name.now number)) }
 {
-    out.begin_object()?;
-    out.number_at("entry", place)?;
-    out.text_at("name", name)?;
-    out.number_at("number", u64::from(number))?;
-    out.end_object()
+    out.object(&[
+        ("entry", Number(place)),
+        ("name", Text(name)),
+        ("number", Byte(number)),
+    ])
 }
 
 /// Writes a fault of a process.
@@ -46,11 +43,11 @@ fn write_fault_of_process(
     ensures { Appends result out.old out.new
         (value_tokens (fault_of_process name.now number process)) }
 {
-    out.begin_object()?;
-    out.text_at("name", name)?;
-    out.number_at("number", u64::from(number))?;
-    out.number_at("process", u64::from(process))?;
-    out.end_object()
+    out.object(&[
+        ("name", Text(name)),
+        ("number", Byte(number)),
+        ("process", Byte(process)),
+    ])
 }
 
 fn write_fault(out: &mut JsonText, fault: CheckFault) -> Result<(), AllocError>
@@ -72,9 +69,7 @@ fn write_fault(out: &mut JsonText, fault: CheckFault) -> Result<(), AllocError>
 fn write_accepted(out: &mut JsonText) -> Result<(), AllocError>
     ensures { Appends result out.old out.new (value_tokens accepted_data) }
 {
-    out.begin_object()?;
-    out.boolean_at("ok", true)?;
-    out.end_object()
+    out.object(&[("ok", Boolean(true))])
 }
 
 fn write_refused(out: &mut JsonText, fault: CheckFault) -> Result<(), AllocError>
@@ -83,8 +78,7 @@ fn write_refused(out: &mut JsonText, fault: CheckFault) -> Result<(), AllocError
     out.begin_object()?;
     out.key("fault")?;
     write_fault(out, fault)?;
-    out.boolean_at("ok", false)?;
-    out.end_object()
+    out.last_members(&[("ok", Boolean(false))])
 }
 
 fn write_verdict(out: &mut JsonText, verdict: Result<(), CheckFault>) -> Result<(), AllocError>
@@ -102,8 +96,7 @@ fn write_unread(out: &mut JsonText, fault: CertFault) -> Result<(), AllocError>
     out.begin_object()?;
     out.key("fault")?;
     write_named_fault(out, fault.name(), fault.number())?;
-    out.boolean_at("ok", false)?;
-    out.end_object()
+    out.last_members(&[("ok", Boolean(false))])
 }
 
 /// The verdict of [`check`](cn_check::check) on a certificate, as one compact JSON object:

@@ -3,19 +3,19 @@ use Rattle.std.proofs.Common.{inl, inr, ℕ, List, map, Option, Result, Ok, Err}
 use Rattle.cn_hall.specs.Seats.{SeatState}
 use Rattle.cn_hall.specs.declared.call.Go.{Go}
 use Rattle.cn_form.specs.declared.answer_form.AnswerForm.{AnswerForm}
-use Rattle.cn_app.specs.Arguments.Calls.{GivesCalls, calls_in}
-use Rattle.cn_app.specs.Arguments.Events.{GivesCapacity}
+use Rattle.cn_io.specs.Arguments.Calls.{GivesCalls, calls_in}
+use Rattle.cn_io.specs.Arguments.Events.{GivesCapacity}
 use Rattle.cn_app.specs.Commands.Serve.{HasServeReport, IsServeReport}
-use Rattle.cn_app.specs.Steps.{Then}
-use Rattle.cn_app.specs.Streams.Writing.{Reports}
-use Rattle.cn_app.specs.Texts.Openings.{GivesOpening}
-use Rattle.cn_app.specs.Threads.Workers.{EachHasOneGate}
-use Rattle.cn_app.specs.declared.arguments.list_text.ListText.{ListText}
-use Rattle.cn_app.specs.declared.fault.AppFault.{AppFault}
-use Rattle.cn_app.specs.declared.readers.opening.OpeningArguments.{OpeningArguments}
-use Rattle.cn_app.specs.declared.report.Outcome.{Outcome}
-use Rattle.cn_app.specs.declared.report.Report.{Report}
-use Rattle.cn_app.specs.declared.streams.output.Output.{Output}
+use Rattle.cn_io.specs.Steps.{Then}
+use Rattle.cn_io.specs.Streams.Writing.{Reports}
+use Rattle.cn_io.specs.Texts.Openings.{GivesOpening}
+use Rattle.cn_service.specs.Workers.{EachHasOneGate}
+use Rattle.cn_io.specs.declared.arguments.list_text.ListText.{ListText}
+use Rattle.cn_io.specs.declared.fault.AppFault.{AppFault}
+use Rattle.cn_io.specs.declared.readers.opening.OpeningArguments.{OpeningArguments}
+use Rattle.cn_io.specs.declared.report.Outcome.{Outcome}
+use Rattle.cn_io.specs.declared.report.Report.{Report}
+use Rattle.cn_io.specs.declared.streams.output.Output.{Output}
 
 -- a fact that follows for each value and for each fault follows for a result
 by_result : {X : Type 0} (P Q : Result X AppFault → Type 0) → ((x : X) → P (Ok x) → Q (Ok x)) → ((e : AppFault) → P (Err e) → Q (Err e))

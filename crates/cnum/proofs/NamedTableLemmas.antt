@@ -5,9 +5,9 @@ use Rattle.std.proofs.lemmas.List.{map-append, map_more}
 use Rattle.std.proofs.lemmas.List.Elements.{All-push}
 use Rattle.cn_words.specs.declared.commands.TextSource.{TextSource}
 use Rattle.cn_words.specs.declared.commands.TextSource.TheVariants as source
-use Rattle.cn_app.specs.Streams.Reading.{IsUnread}
+use Rattle.cn_io.specs.Streams.Reading.{IsUnread}
 use Rattle.cn_app.specs.declared.commands.of_several_tables.NamedTable.{NamedTable}
-use Rattle.cn_app.specs.declared.streams.text.Text.{Text}
+use Rattle.cn_io.specs.declared.streams.text.Text.{Text}
 use Rattle.cnum.specs.NamedTables.{AreNamed, bytes_of, name_of}
 use Rattle.cnum.specs.Texts.{IsReaderOf, IsTextFrom, IsTextOf, left_of}
 use Rattle.cnum.specs.declared.lazy_file.LazyFile.{LazyFile}

@@ -1,9 +1,9 @@
 -- The exit statuses of the program.
 use Rattle.std.specs.Prelude.{ℕ, Option, Some, None, Result, Ok, Err}
-use Rattle.cn_app.specs.FaultText.{status_of}
-use Rattle.cn_app.specs.declared.fault.AppFault.{AppFault}
-use Rattle.cn_app.specs.declared.report.Outcome.{Outcome}
-use Rattle.cn_app.specs.declared.report.Outcome.TheVariants.{Cut, Refused, Whole}
+use Rattle.cn_io.specs.FaultText.{status_of}
+use Rattle.cn_io.specs.declared.fault.AppFault.{AppFault}
+use Rattle.cn_io.specs.declared.report.Outcome.{Outcome}
+use Rattle.cn_io.specs.declared.report.Outcome.TheVariants.{Cut, Refused, Whole}
 
 -- after a command of one table: 1 if some call has no reply; the status of the fault if a text is
 -- refused, or if the command wrote nothing

@@ -1,14 +1,14 @@
 -- The lists that the command line gives, as words or in files.
 use Rattle.std.specs.Prelude.{◌≡◌, ◌++◌, ℕ, List, Option, Result, Ok, Err, String, codes}
 use Rattle.std.specs.Global.{Global}
-use Rattle.cn_app.specs.Arguments.Files.{GivesArgument}
-use Rattle.cn_app.specs.Streams.Reading.{HasRead}
-use Rattle.cn_app.specs.declared.arguments.list_text.ListText.{ListText}
-use Rattle.cn_app.specs.declared.arguments.list_text.ListText.TheVariants.{File, Word}
-use Rattle.cn_app.specs.declared.fault.AppFault.{AppFault}
-use Rattle.cn_app.specs.declared.fault.Argument.{Argument}
-use Rattle.cn_app.specs.declared.fault.Source.TheVariants as from_source
-use Rattle.cn_app.specs.declared.streams.text.Text.{Text}
+use Rattle.cn_io.specs.Arguments.Files.{GivesArgument}
+use Rattle.cn_io.specs.Streams.Reading.{HasRead}
+use Rattle.cn_io.specs.declared.arguments.list_text.ListText.{ListText}
+use Rattle.cn_io.specs.declared.arguments.list_text.ListText.TheVariants.{File, Word}
+use Rattle.cn_io.specs.declared.fault.AppFault.{AppFault}
+use Rattle.cn_io.specs.declared.fault.Argument.{Argument}
+use Rattle.cn_io.specs.declared.fault.Source.TheVariants as from_source
+use Rattle.cn_io.specs.declared.streams.text.Text.{Text}
 use Rattle.cnum.specs.Texts.{IsTextOf}
 
 -- an argument was read from a text with these bytes, with this result

@@ -2,18 +2,18 @@
 use Rattle.std.specs.Prelude.{◌≡◌, ◌⊎◌, ℕ, List, Option, Result}
 use Rattle.cn_words.specs.declared.lives.LivesWords.{LivesWords}
 use Rattle.cn_words.specs.declared.commands.TextSource.{TextSource}
-use Rattle.cn_app.specs.Arguments.Lives.{SpellLifeLists}
+use Rattle.cn_io.specs.Arguments.Lives.{SpellLifeLists}
 use Rattle.cn_app.specs.Commands.Lives.{HasLivesReport}
-use Rattle.cn_app.specs.Streams.Reading.{HasRead}
-use Rattle.cn_app.specs.Streams.Writing.{Reports}
-use Rattle.cn_app.specs.declared.arguments.list_text.ListText.{ListText}
-use Rattle.cn_app.specs.declared.fault.AppFault.{AppFault}
-use Rattle.cn_app.specs.declared.fault.Argument.TheVariants.{Inputs, Schedule}
-use Rattle.cn_app.specs.declared.fault.Source.TheVariants.{Table}
-use Rattle.cn_app.specs.declared.report.Outcome.{Outcome}
+use Rattle.cn_io.specs.Streams.Reading.{HasRead}
+use Rattle.cn_io.specs.Streams.Writing.{Reports}
+use Rattle.cn_io.specs.declared.arguments.list_text.ListText.{ListText}
+use Rattle.cn_io.specs.declared.fault.AppFault.{AppFault}
+use Rattle.cn_io.specs.declared.fault.Argument.TheVariants.{Inputs, Schedule}
+use Rattle.cn_io.specs.declared.fault.Source.TheVariants.{Table}
+use Rattle.cn_io.specs.declared.report.Outcome.{Outcome}
 use Rattle.cn_app.specs.declared.reports.lives.AskedLives.{AskedLives}
-use Rattle.cn_app.specs.declared.streams.output.Output.{Output}
-use Rattle.cn_app.specs.declared.streams.text.Text.{Text}
+use Rattle.cn_io.specs.declared.streams.output.Output.{Output}
+use Rattle.cn_io.specs.declared.streams.text.Text.{Text}
 use Rattle.cnum.specs.Runs.{ReadsList}
 use Rattle.cnum.specs.Texts.{IsTextFrom, left_of}
 use Rattle.cnum.specs.declared.lazy_file.LazyFile.{LazyFile}

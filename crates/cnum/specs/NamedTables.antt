@@ -3,12 +3,12 @@ use Rattle.std.specs.Prelude.{◌≡◌, codes, ℕ, List, map, Option, Result, 
 use Rattle.cn_words.specs.declared.commands.TextSource.{TextSource}
 use Rattle.cn_words.specs.declared.commands.TextSource.TheVariants.{File, StandardInput}
 use Rattle.cn_app.specs.Commands.ClassifyEach.{AreClassifiedIn, AreUnread}
-use Rattle.cn_app.specs.Streams.Writing.{IsSilent}
+use Rattle.cn_io.specs.Streams.Writing.{IsSilent}
 use Rattle.cn_app.specs.declared.commands.of_several_tables.NamedTable.{NamedTable}
-use Rattle.cn_app.specs.declared.fault.AppFault.{AppFault}
-use Rattle.cn_app.specs.declared.fault.AppFault.TheVariants.{OutOfMemory}
+use Rattle.cn_io.specs.declared.fault.AppFault.{AppFault}
+use Rattle.cn_io.specs.declared.fault.AppFault.TheVariants.{OutOfMemory}
 use Rattle.cn_app.specs.declared.reports.classify.AskedNumbers.{AskedNumbers}
-use Rattle.cn_app.specs.declared.streams.output.Output.{Output}
+use Rattle.cn_io.specs.declared.streams.output.Output.{Output}
 
 -- the name of a table; a minus sign is that of standard input
 abbrev pub name_of : TextSource → List ℕ

@@ -5,11 +5,11 @@ use Rattle.cn_words.specs.declared.commands.Invocation.{Invocation}
 use Rattle.cn_words.specs.declared.commands.Invocation.TheVariants.{Classify, Lives, OfTable}
 use Rattle.cn_words.specs.declared.commands.TextSource.{TextSource}
 use Rattle.cn_words.specs.declared.lives.LivesWords.{LivesWords}
-use Rattle.cn_app.specs.Streams.Writing.{IsUnwritten}
-use Rattle.cn_app.specs.declared.fault.AppFault.{AppFault}
-use Rattle.cn_app.specs.declared.report.Outcome.{Outcome}
+use Rattle.cn_io.specs.Streams.Writing.{IsUnwritten}
+use Rattle.cn_io.specs.declared.fault.AppFault.{AppFault}
+use Rattle.cn_io.specs.declared.report.Outcome.{Outcome}
 use Rattle.cn_app.specs.declared.reports.classify.AskedNumbers.{AskedNumbers}
-use Rattle.cn_app.specs.declared.streams.output.Output.{Output}
+use Rattle.cn_io.specs.declared.streams.output.Output.{Output}
 use Rattle.cnum.specs.Exits.{classify_status, command_status}
 use Rattle.cnum.specs.LivesRuns.{RunsLives}
 use Rattle.cnum.specs.NamedTables.{ClassifiesSources, bytes_of}

@@ -1,5 +1,5 @@
 -- What a command of one table reads and writes, by the words for its arguments.
-use Rattle.std.specs.Prelude.{◌≡◌, ◌⊎◌, ℕ, List, Option, Result, Ok, Err}
+use Rattle.std.specs.Prelude.{◌≡◌, ◌⊎◌, ℕ, List, None, Option, Some, Result, Ok, Err}
 use Rattle.cn_words.specs.declared.commands.Command.{Command}
 use Rattle.cn_words.specs.declared.commands.Command.TheVariants.{Find, Lint, Draw, Check}
 use Rattle.cn_words.specs.declared.commands.Command.TheVariants.{Explain, Why, WhyRecoverable}
@@ -21,26 +21,41 @@ use Rattle.cn_app.specs.Commands.Serve.{HasServeReport, SpellCalls}
 use Rattle.cn_app.specs.Commands.Show.{HasShowReport}
 use Rattle.cn_app.specs.Commands.Why.{HasWhyReport}
 use Rattle.cn_app.specs.Commands.WhyRecoverable.{HasWhyRecoverableReport}
-use Rattle.cn_app.specs.Streams.Reading.{HasRead}
-use Rattle.cn_app.specs.Streams.Writing.{IsSilent, Reports}
-use Rattle.cn_app.specs.Texts.Checked.{AreUntouched, HaveReadBoth}
-use Rattle.cn_app.specs.Texts.Openings.{HaveReadAll}
-use Rattle.cn_app.specs.Threads.Workers.{EachHasOneGate}
-use Rattle.cn_app.specs.declared.arguments.list_text.ListText.{ListText}
-use Rattle.cn_app.specs.declared.fault.AppFault.{AppFault}
-use Rattle.cn_app.specs.declared.fault.Argument.{Argument}
-use Rattle.cn_app.specs.declared.fault.Argument.TheVariants as argument
-use Rattle.cn_app.specs.declared.fault.Source.TheVariants.{Table}
-use Rattle.cn_app.specs.declared.readers.opening.OpeningArguments.{OpeningArguments}
-use Rattle.cn_app.specs.declared.report.Outcome.{Outcome}
-use Rattle.cn_app.specs.declared.report.Report.{Report}
+use Rattle.cn_io.specs.Streams.Reading.{HasRead}
+use Rattle.cn_io.specs.Streams.Writing.{IsSilent, Reports}
+use Rattle.cn_io.specs.Texts.Checked.{AreUntouched, HaveReadBoth}
+use Rattle.cn_io.specs.Texts.Openings.{HaveReadAll}
+use Rattle.cn_service.specs.Workers.{EachHasOneGate}
+use Rattle.cn_io.specs.declared.arguments.list_text.ListText.{ListText}
+use Rattle.cn_io.specs.declared.fault.AppFault.{AppFault}
+use Rattle.cn_io.specs.declared.fault.Argument.{Argument}
+use Rattle.cn_io.specs.declared.fault.Argument.TheVariants as argument
+use Rattle.cn_io.specs.declared.fault.Source.TheVariants.{Table}
+use Rattle.cn_io.specs.declared.readers.opening.OpeningArguments.{OpeningArguments}
+use Rattle.cn_io.specs.declared.report.Outcome.{Outcome}
+use Rattle.cn_io.specs.declared.report.Report.{Report}
 use Rattle.cn_app.specs.declared.reports.agree.AskedRun.{AskedRun}
-use Rattle.cn_app.specs.declared.streams.output.Output.{Output}
-use Rattle.cn_app.specs.declared.streams.text.Text.{Text}
+use Rattle.cn_io.specs.declared.streams.output.Output.{Output}
+use Rattle.cn_io.specs.declared.streams.text.Text.{Text}
 use Rattle.cnum.specs.GivenLists.{GivesList}
 use Rattle.cnum.specs.Texts.{IsTextFrom, IsTextOf, left_of}
 use Rattle.cnum.specs.declared.lazy_file.LazyFile.{LazyFile}
 use Rattle.cnum.specs.declared.text_reader.TextReader.{TextReader}
+
+-- the source of the certificate, if a command reads one
+abbrev pub certificate_of : Command → Option TextSource
+certificate_of (Find limit) = None
+certificate_of (Lint form) = None
+certificate_of Draw = None
+certificate_of (Why limit all form) = None
+certificate_of (WhyRecoverable all form) = None
+certificate_of (Pairs form) = None
+certificate_of (Check certificate form) = Some certificate
+certificate_of (Explain certificate all form) = Some certificate
+certificate_of (Show certificate form) = Some certificate
+certificate_of (Agree certificate inputs schedule steps form) = Some certificate
+certificate_of (Replay opening events form) = Some opening.certificate
+certificate_of (Serve opening calls form) = Some opening.certificate
 
 -- the arguments of a command that opens a log: this table and this certificate, the text of the
 -- file that the word for the object names, and the words for the start and the number of slots

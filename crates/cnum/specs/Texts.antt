@@ -2,8 +2,8 @@
 use Rattle.std.specs.Prelude.{◌≡◌, ℕ, List, [], Option, Some}
 use Rattle.cn_words.specs.declared.commands.TextSource.{TextSource}
 use Rattle.cn_words.specs.declared.commands.TextSource.TheVariants as source
-use Rattle.cn_app.specs.Streams.Reading.{IsUnread}
-use Rattle.cn_app.specs.declared.streams.text.Text.{Text}
+use Rattle.cn_io.specs.Streams.Reading.{IsUnread}
+use Rattle.cn_io.specs.declared.streams.text.Text.{Text}
 use Rattle.cnum.specs.declared.lazy_file.LazyFile.{LazyFile}
 use Rattle.cnum.specs.declared.lazy_file.Progress.{Progress}
 use Rattle.cnum.specs.declared.lazy_file.Progress.TheVariants.{Ended, Open, Unopened}

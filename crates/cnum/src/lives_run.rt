@@ -1,5 +1,5 @@
 //! The run of processes that crash and come back: it opens the files, and calls the library.
-ghost use Rattle.cn_app.specs.Streams.Writing.{IsWritable};
+ghost use Rattle.cn_io.specs.Streams.Writing.{IsWritable};
 ghost use Rattle.cnum.specs.LivesRuns.{RunsLives};
 ghost use Rattle.cnum.specs.Texts.{left_in};
 

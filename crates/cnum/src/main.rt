@@ -5,9 +5,9 @@
 ghost use Rattle.std.specs.Prelude.{◌≡◌};
 ghost use Rattle.std.specs.Process.{exit_status};
 ghost use Rattle.std.specs.Thread.{IsSync};
-ghost use Rattle.cn_app.specs.FaultText.{status_of};
+ghost use Rattle.cn_io.specs.FaultText.{status_of};
 ghost use Rattle.cnum.specs.Exits.{classify_status, command_status};
-ghost use Rattle.cn_app.specs.Streams.Writing.{IsWritable};
+ghost use Rattle.cn_io.specs.Streams.Writing.{IsWritable};
 ghost use Rattle.cnum.specs.Obeying.{Does, Obeys};
 ghost use Rattle.cnum.specs.Texts.{left_in};
 

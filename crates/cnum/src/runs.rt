@@ -1,10 +1,11 @@
 //! What the program does with a command: it opens the files, and calls the library.
-ghost use Rattle.std.specs.Prelude.{◌≡◌, IfOk};
+ghost use Rattle.std.specs.Prelude.{◌≡◌, IfOk, None, Some};
 ghost use Rattle.cnum.specs.NamedTables.{AreNamed, ClassifiesSources, bytes_of, name_of};
-ghost use Rattle.cnum.specs.Runs.{HasArguments, Runs, RunsAgree, RunsReplay, RunsServe};
+ghost use Rattle.cnum.specs.Runs.{HasArguments, Runs, RunsAgree, RunsOn, RunsReplay};
+ghost use Rattle.cnum.specs.Runs.{RunsServe, certificate_of};
 ghost use Rattle.cnum.specs.Texts.{IsTextFrom, IsTextOf, left_in, left_of};
-ghost use Rattle.cn_app.specs.Streams.Reading.{IsUnread};
-ghost use Rattle.cn_app.specs.Streams.Writing.{IsWritable};
+ghost use Rattle.cn_io.specs.Streams.Reading.{IsUnread};
+ghost use Rattle.cn_io.specs.Streams.Writing.{IsWritable};
 
 use crate::disk::Disk;
 use crate::given_list::given_list;
@@ -220,6 +221,109 @@ fn serve<T: Threads + Wait + Sync + Disk, I: Read + Drop, C: Read + Drop, O: Wri
     commands::serve(rt, alloc, &mut given, output, &calls, form, |_| AlwaysOn)
 }
 
+// The source of the certificate, if a command reads one.
+fn certificate_of<'a>(command: &Command<'a>) -> Option<TextSource<'a>>
+    ensures { result ≡ certificate_of command.now }
+{
+    match *command {
+        Command::Check { certificate, .. }
+        | Command::Explain { certificate, .. }
+        | Command::Show { certificate, .. }
+        | Command::Agree { certificate, .. } => Some(certificate),
+        Command::Replay { opening, .. } | Command::Serve { opening, .. } => {
+            Some(opening.certificate)
+        }
+        _ => None,
+    }
+}
+
+// Runs a command of a table alone.
+fn run_on_table<T: Threads + Sync + Disk, S: Read + Copy, O: Write>(
+    rt: &T,
+    alloc: Global,
+    table: &mut Text<TextReader<'_, S, T>>,
+    output: &mut Output<O>,
+    command: &Command<'_>,
+) -> Result<Outcome, AppFault>
+    requires command { certificate_of command.now ≡ None }
+    requires text { IsUnread table.old }
+    requires output { IsWritable output.old }
+    ensures { (stdin : _) → RunsOn S.remaining (left_in T.contents T.Reader.remaining) O.contents
+        (T.contents rt.now) stdin table.old command.now output.old output.new result }
+{
+    match *command {
+        Command::Find { limit } => commands::find(rt, alloc, table, output, limit),
+        Command::Lint { form } => commands::lint(alloc, table, output, form),
+        Command::Draw => commands::draw(alloc, table, output),
+        Command::Why { limit, all, form } => {
+            commands::why(rt, alloc, table, output, limit, all, form)
+        }
+        Command::WhyRecoverable { all, form } => {
+            commands::why_recoverable(rt, alloc, table, output, all, form)
+        }
+        Command::Pairs { form } => commands::pairs(rt, alloc, table, output, form),
+        // The command reads no certificate.
+        _ => unreachable!(),
+    }
+}
+
+// Runs a command of a table and a certificate, which is read from its source.
+fn run_on_both<T: Threads + Wait + Sync + Disk, S: Read + Copy + Drop, O: Write>(
+    rt: &T,
+    alloc: Global,
+    stdin: S,
+    table: Text<TextReader<'_, S, T>>,
+    source: TextSource<'_>,
+    output: &mut Output<O>,
+    command: &Command<'_>,
+    known: &mut Known<'_>,
+) -> Result<Outcome, AppFault>
+    requires command { certificate_of command.now ≡ Some source }
+    requires text { IsUnread table }
+    requires output { IsWritable output.old }
+    ensures { RunsOn S.remaining (left_in T.contents T.Reader.remaining) O.contents
+        (T.contents rt.now) stdin table.entry command.now output.old output.new result }
+{
+    let (mut table, mut certificate) = (table, text_of(rt, alloc, stdin, source));
+    match *command {
+        Command::Check { form, .. } => {
+            let end = commands::check(alloc, &mut table, &mut certificate, output, form);
+            noting_table(alloc, known, &table, end)
+        }
+        Command::Explain { all, form, .. } => {
+            let end = commands::explain(alloc, &mut table, &mut certificate, output, all, form);
+            noting_table(alloc, known, &table, end)
+        }
+        Command::Show { form, .. } => {
+            let end = commands::show(alloc, &mut table, &mut certificate, output, form);
+            noting_table(alloc, known, &table, end)
+        }
+        Command::Agree {
+            inputs,
+            schedule,
+            steps,
+            form,
+            ..
+        } => {
+            let (table, certificate) = (&mut table, &mut certificate);
+            let (lists, asked) = ((inputs, schedule), AskedRun { steps, form });
+            agree(rt, alloc, table, certificate, output, lists, asked, known)
+        }
+        Command::Replay {
+            opening,
+            events,
+            form,
+        } => replay(rt, alloc, table, certificate, output, opening, events, form),
+        Command::Serve {
+            opening,
+            calls,
+            form,
+        } => serve(rt, alloc, table, certificate, output, opening, calls, form),
+        // The command reads a certificate.
+        _ => unreachable!(),
+    }
+}
+
 /// Runs a command of one table, which is read from its source. What the texts say of its fault is
 /// noted.
 pub fn run<T: Threads + Wait + Sync + Disk, S: Read + Copy + Drop, O: Write>(
@@ -237,78 +341,11 @@ pub fn run<T: Threads + Wait + Sync + Disk, S: Read + Copy + Drop, O: Write>(
         (T.contents rt.now) stdin table.entry command.now output.old output.new result }
 {
     let mut table = text_of(rt, alloc, stdin, table);
-    let text = &mut table;
-    match *command {
-        Command::Find { limit } => {
-            let end = commands::find(rt, alloc, text, output, limit);
-            noting_table(alloc, known, text, end)
+    match certificate_of(command) {
+        None => {
+            let end = run_on_table(rt, alloc, &mut table, output, command);
+            noting_table(alloc, known, &table, end)
         }
-        Command::Lint { form } => {
-            let end = commands::lint(alloc, text, output, form);
-            noting_table(alloc, known, text, end)
-        }
-        Command::Draw => {
-            let end = commands::draw(alloc, text, output);
-            noting_table(alloc, known, text, end)
-        }
-        Command::Why { limit, all, form } => {
-            let end = commands::why(rt, alloc, text, output, limit, all, form);
-            noting_table(alloc, known, text, end)
-        }
-        Command::WhyRecoverable { all, form } => {
-            let end = commands::why_recoverable(rt, alloc, text, output, all, form);
-            noting_table(alloc, known, text, end)
-        }
-        Command::Pairs { form } => {
-            let end = commands::pairs(rt, alloc, text, output, form);
-            noting_table(alloc, known, text, end)
-        }
-        Command::Check { certificate, form } => {
-            let certificate = &mut text_of(rt, alloc, stdin, certificate);
-            let end = commands::check(alloc, text, certificate, output, form);
-            noting_table(alloc, known, text, end)
-        }
-        Command::Explain {
-            certificate,
-            all,
-            form,
-        } => {
-            let certificate = &mut text_of(rt, alloc, stdin, certificate);
-            let end = commands::explain(alloc, text, certificate, output, all, form);
-            noting_table(alloc, known, text, end)
-        }
-        Command::Show { certificate, form } => {
-            let certificate = &mut text_of(rt, alloc, stdin, certificate);
-            let end = commands::show(alloc, text, certificate, output, form);
-            noting_table(alloc, known, text, end)
-        }
-        Command::Agree {
-            certificate,
-            inputs,
-            schedule,
-            steps,
-            form,
-        } => {
-            let certificate = &mut text_of(rt, alloc, stdin, certificate);
-            let lists = (inputs, schedule);
-            let asked = AskedRun { steps, form };
-            agree(rt, alloc, text, certificate, output, lists, asked, known)
-        }
-        Command::Replay {
-            opening,
-            events,
-            form,
-        } => {
-            let certificate = text_of(rt, alloc, stdin, opening.certificate);
-            replay(rt, alloc, table, certificate, output, opening, events, form)
-        }
-        Command::Serve {
-            opening,
-            calls,
-            form,
-        } => {
-            let certificate = text_of(rt, alloc, stdin, opening.certificate);
-            serve(rt, alloc, table, certificate, output, opening, calls, form)
-        }
+        Some(source) => run_on_both(rt, alloc, stdin, table, source, output, command, known),
     }
 }

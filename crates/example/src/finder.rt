@@ -8,9 +8,10 @@ use crate::texts::ticket_roll;
 use anyhow::{Result, bail};
 use cn_cert::{Certificate, write_certificate};
 use cn_check::check;
-use cn_forms::{Explanation, TypeNumber, diagram_of, explanation_of};
+use cn_reasons::{Explanation, TypeNumber};
 use cn_search::find;
 use cn_table::{Table, read_table};
+use cn_text::{diagram_of, explanation_of};
 use std::alloc::Global;
 use std::thread::Threads;
 

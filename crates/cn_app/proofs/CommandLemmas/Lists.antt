@@ -4,9 +4,9 @@ use Rattle.cn_table.specs.TypeTable.{TypeTable}
 use Rattle.cn_lives.specs.declared.schedule.Event.{Event}
 use Rattle.cn_app.specs.Commands.Agree.{IsAgreeReport}
 use Rattle.cn_app.specs.Commands.Lives.{IsLivesReport}
-use Rattle.cn_app.specs.declared.fault.AppFault.{AppFault}
-use Rattle.cn_app.specs.declared.readers.checked.Checked.{Checked}
-use Rattle.cn_app.specs.declared.report.Report.{Report}
+use Rattle.cn_io.specs.declared.fault.AppFault.{AppFault}
+use Rattle.cn_io.specs.declared.readers.checked.Checked.{Checked}
+use Rattle.cn_io.specs.declared.report.Report.{Report}
 use Rattle.cn_app.specs.declared.reports.agree.AskedRun.{AskedRun}
 use Rattle.cn_app.specs.declared.reports.lives.AskedLives.{AskedLives}
 

@@ -1,10 +1,10 @@
 -- The reports of commands.
 use Rattle.std.proofs.Common.{◌≡◌, inl, inr, ℕ, List, Option, Result, refl, sym, subst}
-use Rattle.cn_app.specs.Streams.Writing.{IsSilent, Reports}
-use Rattle.cn_app.specs.declared.fault.AppFault.{AppFault}
-use Rattle.cn_app.specs.declared.report.Outcome.{Outcome}
-use Rattle.cn_app.specs.declared.report.Report.{Report}
-use Rattle.cn_app.specs.declared.streams.output.Output.{Output}
+use Rattle.cn_io.specs.Streams.Writing.{IsSilent, Reports}
+use Rattle.cn_io.specs.declared.fault.AppFault.{AppFault}
+use Rattle.cn_io.specs.declared.report.Outcome.{Outcome}
+use Rattle.cn_io.specs.declared.report.Report.{Report}
+use Rattle.cn_io.specs.declared.streams.output.Output.{Output}
 
 -- an output that was not touched
 pub silent : {W : Type 0} (output : Output W) → IsSilent output output

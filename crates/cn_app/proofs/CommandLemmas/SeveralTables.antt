@@ -3,17 +3,17 @@ use Rattle.std.proofs.Common.{◌≡◌, ◌<◌, ◌∙◌, ◌+◌, ℕ, List,
 use Rattle.std.specs.Option.{option_or}
 use Rattle.std.proofs.lemmas.List.{append-nil, append_assoc, drop-drop, drop-set, drop-set-lt, drop_more, get_or-set_same, get_or-take, length-drop, take-append-drop, take-set, take-take, take_more_set}
 use Rattle.cn_app.specs.Commands.ClassifyEach.{AreClassified, AreUnread, EndsAll, HasClassified, HasFault, HasLine, IsNoted, NoneLeft, Notes, has_line, names_with}
-use Rattle.cn_app.specs.FaultText.{is_of_every_table}
-use Rattle.cn_app.specs.Streams.Reading.{IsUnread}
-use Rattle.cn_app.specs.Streams.Writing.{IsWritable, Reports}
+use Rattle.cn_io.specs.FaultText.{is_of_every_table}
+use Rattle.cn_io.specs.Streams.Reading.{IsUnread}
+use Rattle.cn_io.specs.Streams.Writing.{IsWritable, Reports}
 use Rattle.cn_app.specs.declared.commands.of_several_tables.NamedTable.{NamedTable}
-use Rattle.cn_app.specs.declared.fault.AppFault.{AppFault}
-use Rattle.cn_app.specs.declared.fault.AppFault.TheVariants.{Write}
-use Rattle.cn_app.specs.declared.report.Outcome.{Outcome}
-use Rattle.cn_app.specs.declared.report.Report.{Report}
+use Rattle.cn_io.specs.declared.fault.AppFault.{AppFault}
+use Rattle.cn_io.specs.declared.fault.AppFault.TheVariants.{Write}
+use Rattle.cn_io.specs.declared.report.Outcome.{Outcome}
+use Rattle.cn_io.specs.declared.report.Report.{Report}
 use Rattle.cn_app.specs.declared.reports.classify.AskedNumbers.{AskedNumbers}
-use Rattle.cn_app.specs.declared.streams.progress.Progress.TheVariants.{Done, Failed}
-use Rattle.cn_app.specs.declared.streams.output.Output.{Output}
+use Rattle.cn_io.specs.declared.streams.progress.Progress.TheVariants.{Done, Failed}
+use Rattle.cn_io.specs.declared.streams.output.Output.{Output}
 
 -- the first fault stays
 first_stays : (so_far later : Option AppFault) (fault : AppFault) → option_or so_far (Some fault) ≡ option_or (option_or so_far (Some fault)) later

@@ -3,11 +3,11 @@ use Rattle.std.proofs.Common.{◌≡◌, inl, inr, Result, Ok, Err, refl}
 use Rattle.cn_table.specs.TypeTable.{TypeTable}
 use Rattle.cn_form.specs.declared.answer_form.AnswerForm.{AnswerForm}
 use Rattle.cn_app.specs.Commands.Check.{HasVerdictReport, IsVerdictReport}
-use Rattle.cn_app.specs.Texts.Checked.{EndsCheck}
-use Rattle.cn_app.specs.declared.fault.AppFault.{AppFault}
-use Rattle.cn_app.specs.declared.readers.checked.Checked.{Checked}
-use Rattle.cn_app.specs.declared.report.Report.{Report}
-use Rattle.cn_app.specs.declared.streams.text.Text.{Text}
+use Rattle.cn_io.specs.Texts.Checked.{EndsCheck}
+use Rattle.cn_io.specs.declared.fault.AppFault.{AppFault}
+use Rattle.cn_io.specs.declared.readers.checked.Checked.{Checked}
+use Rattle.cn_io.specs.declared.report.Report.{Report}
+use Rattle.cn_io.specs.declared.streams.text.Text.{Text}
 
 pub verdict_told : {C : Type 0} (t : TypeTable) (certificate : Text C) (told : AnswerForm) (verdict : Result (Unit {0}) AppFault) (r : Result Report AppFault)
     → EndsCheck t certificate verdict → IsVerdictReport told verdict r → HasVerdictReport certificate told t r

@@ -14,7 +14,7 @@ use Rattle.cn_log.specs.declared.fault.EventFault.{EventFault}
 use Rattle.cn_log.specs.Faults.{IsFirstEventFault}
 use Rattle.cn_log.specs.Linearized.{IsLinearized}
 use Rattle.cn_log.specs.Log.{Setting, World, IsEventList, MayAllCome, MayCome, after_event, after_events, entries, first_world, state_of}
-use Rattle.cn_lines.specs.Log.{HaveResponses}
+use Rattle.cn_plan_text.specs.Log.{HaveResponses}
 use Rattle.cn_json.specs.Log as json
 use Rattle.cn_json.specs.declared.log.AnswerOf.{AnswerOf}
 use Rattle.cn_app.specs.Answers.{answer_of, answers_told}

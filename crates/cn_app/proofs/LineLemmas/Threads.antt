@@ -12,10 +12,10 @@ use Rattle.cn_hall.specs.declared.call.CallFault.TheVariants.{LogFull, Stopped}
 use Rattle.cn_json.specs.Log.{HaveResponses}
 use Rattle.cn_json.specs.declared.log.AnswerOf.{AnswerOf}
 use Rattle.cn_log.specs.declared.event.Reply.{Reply}
-use Rattle.cn_lines.specs.Log.{RepliesHaveResponses}
+use Rattle.cn_plan_text.specs.Log.{RepliesHaveResponses}
 use Rattle.cn_app.specs.Lines.Threads.{EachHasResponses, call_answers, fault_answers, history_answers, reply_answers}
-use Rattle.cn_app.specs.Threads.Serving.{HasServed}
-use Rattle.cn_app.specs.declared.threads.workers.ProcessHistory.{ProcessHistory}
+use Rattle.cn_service.specs.Serving.{HasServed}
+use Rattle.cn_service.specs.declared.workers.ProcessHistory.{ProcessHistory}
 
 -- the list at a place is that of the value at this place
 at_place : {V : Type 0} (items : V → List ℕ) (calls : List V) (p : ℕ) (c : List ℕ) → slice_get (map items calls) p ≡ Some c → (v : V) × (slice_get calls p ≡ Some v) × (items v ≡ c)

@@ -7,23 +7,23 @@ use Rattle.cn_proto.specs.Plan.{Plan, processes_of, protocol_of}
 use Rattle.cn_agree.specs.Actions.{records_of}
 use Rattle.cn_agree.specs.Consensus.{IsConsensus}
 use Rattle.cn_agree.specs.Schedules.{decisions_after, schedule_fault}
-use Rattle.cn_lines.specs.Decisions.{decision_lines}
-use Rattle.cn_lines.specs.Steps.{step_lines}
+use Rattle.cn_plan_text.specs.Decisions.{decision_lines}
+use Rattle.cn_plan_text.specs.Steps.{step_lines}
 use Rattle.cn_json.specs.Course.{course_data, decisions_data}
-use Rattle.cn_app.specs.Arguments.Lists.{GivesLists, inputs_of, schedule_of}
-use Rattle.cn_app.specs.FaultText.{plain_of}
+use Rattle.cn_io.specs.Arguments.Lists.{GivesLists, inputs_of, schedule_of}
+use Rattle.cn_io.specs.FaultText.{plain_of}
 use Rattle.cn_app.specs.Forms.{if_json}
-use Rattle.cn_app.specs.Steps.{Then}
-use Rattle.cn_app.specs.Texts.Checked.{GivesChecked}
-use Rattle.cn_app.specs.Texts.Plans.{GivesPlan}
-use Rattle.cn_app.specs.declared.arguments.list_text.ListText.{ListText}
-use Rattle.cn_app.specs.declared.readers.checked.Checked.{Checked}
-use Rattle.cn_app.specs.declared.report.Outcome.TheVariants.{Whole}
-use Rattle.cn_app.specs.declared.report.Report.{Report}
+use Rattle.cn_io.specs.Steps.{Then}
+use Rattle.cn_io.specs.Texts.Checked.{GivesChecked}
+use Rattle.cn_io.specs.Texts.Plans.{GivesPlan}
+use Rattle.cn_io.specs.declared.arguments.list_text.ListText.{ListText}
+use Rattle.cn_io.specs.declared.readers.checked.Checked.{Checked}
+use Rattle.cn_io.specs.declared.report.Outcome.TheVariants.{Whole}
+use Rattle.cn_io.specs.declared.report.Report.{Report}
 use Rattle.cn_app.specs.declared.reports.agree.AskedRun.{AskedRun}
-use Rattle.cn_app.specs.declared.streams.text.Text.{Text}
-use Rattle.cn_app.specs.declared.fault.AppFault.{AppFault}
-use Rattle.cn_app.specs.declared.fault.AppFault.TheVariants.{OutOfMemory, Schedule}
+use Rattle.cn_io.specs.declared.streams.text.Text.{Text}
+use Rattle.cn_io.specs.declared.fault.AppFault.{AppFault}
+use Rattle.cn_io.specs.declared.fault.AppFault.TheVariants.{OutOfMemory, Schedule}
 
 -- the lines of the steps of the schedule, if they are asked for
 abbrev pub lines_of_steps : Plan → List ℕ → List ℕ → Bool → List ℕ

@@ -9,15 +9,15 @@ use Rattle.cn_json.specs.Verdict.{accepted_data, unread_data, verdict_data}
 use Rattle.cn_form.specs.declared.answer_form.AnswerForm.{AnswerForm}
 use Rattle.cn_form.specs.declared.answer_form.AnswerForm.TheVariants as form
 use Rattle.cn_app.specs.Forms.{if_json}
-use Rattle.cn_app.specs.Steps.{Then}
-use Rattle.cn_app.specs.Texts.Checked.{GivesCheck, IsChecked}
-use Rattle.cn_app.specs.Texts.Contents.{GivesCertificate, GivesTable}
-use Rattle.cn_app.specs.declared.readers.checked.Checked.{Checked}
-use Rattle.cn_app.specs.declared.report.Outcome.TheVariants.{Refused, Whole}
-use Rattle.cn_app.specs.declared.report.Report.{Report}
-use Rattle.cn_app.specs.declared.streams.text.Text.{Text}
-use Rattle.cn_app.specs.declared.fault.AppFault.{AppFault}
-use Rattle.cn_app.specs.declared.fault.AppFault.TheVariants.{Certificate, Check, OutOfMemory}
+use Rattle.cn_io.specs.Steps.{Then}
+use Rattle.cn_io.specs.Texts.Checked.{GivesCheck, IsChecked}
+use Rattle.cn_io.specs.Texts.Contents.{GivesCertificate, GivesTable}
+use Rattle.cn_io.specs.declared.readers.checked.Checked.{Checked}
+use Rattle.cn_io.specs.declared.report.Outcome.TheVariants.{Refused, Whole}
+use Rattle.cn_io.specs.declared.report.Report.{Report}
+use Rattle.cn_io.specs.declared.streams.text.Text.{Text}
+use Rattle.cn_io.specs.declared.fault.AppFault.{AppFault}
+use Rattle.cn_io.specs.declared.fault.AppFault.TheVariants.{Certificate, Check, OutOfMemory}
 
 -- the number of the certificate is that of the table up to its limit
 abbrev pub HasItsNumber : Checked → Type 0

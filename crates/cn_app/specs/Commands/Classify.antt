@@ -13,23 +13,23 @@ use Rattle.cn_search.specs.Numbers.{HasNumber}
 use Rattle.cn_search.specs.declared.exact.ConsensusNumber.{ConsensusNumber}
 use Rattle.cn_search.specs.declared.fault.FindFault.{FindFault}
 use Rattle.cn_recover.specs.Recording.{HasRecoverableNumber, IsRecoverableNumberUpTo}
-use Rattle.cn_documents.specs.Documents.{numbers_head, numbers_row}
+use Rattle.cn_markdown.specs.Numbers.{numbers_head, numbers_row}
 use Rattle.cn_json.specs.Numbers.{classification_data}
 use Rattle.cn_form.specs.declared.answer_form.DocumentForm.{DocumentForm}
 use Rattle.cn_form.specs.declared.answer_form.DocumentForm.TheVariants as form
 use Rattle.cn_json.specs.declared.numbers.Classification.{Classification}
-use Rattle.cn_forms.specs.declared.numbers.TypeNumber.{TypeNumber}
-use Rattle.cn_forms.specs.declared.numbers.TypeNumber.TheVariants.{Exact, UpTo}
-use Rattle.cn_app.specs.FaultText.{plain_of}
-use Rattle.cn_app.specs.Steps.{Then}
-use Rattle.cn_app.specs.Texts.Contents.{GivesTable}
-use Rattle.cn_app.specs.declared.report.Outcome.TheVariants.{Whole}
-use Rattle.cn_app.specs.declared.report.Report.{Report}
+use Rattle.cn_reasons.specs.declared.numbers.TypeNumber.{TypeNumber}
+use Rattle.cn_reasons.specs.declared.numbers.TypeNumber.TheVariants.{Exact, UpTo}
+use Rattle.cn_io.specs.FaultText.{plain_of}
+use Rattle.cn_io.specs.Steps.{Then}
+use Rattle.cn_io.specs.Texts.Contents.{GivesTable}
+use Rattle.cn_io.specs.declared.report.Outcome.TheVariants.{Whole}
+use Rattle.cn_io.specs.declared.report.Report.{Report}
 use Rattle.cn_app.specs.declared.reports.classify.AskedNumbers.{AskedNumbers}
 use Rattle.cn_app.specs.declared.reports.classify.BothNumbers.{BothNumbers}
-use Rattle.cn_app.specs.declared.streams.text.Text.{Text}
-use Rattle.cn_app.specs.declared.fault.AppFault.{AppFault}
-use Rattle.cn_app.specs.declared.fault.AppFault.TheVariants.{Find, OutOfMemory}
+use Rattle.cn_io.specs.declared.streams.text.Text.{Text}
+use Rattle.cn_io.specs.declared.fault.AppFault.{AppFault}
+use Rattle.cn_io.specs.declared.fault.AppFault.TheVariants.{Find, OutOfMemory}
 
 -- the fault of the limit, if one was given and it has one
 abbrev pub given_limit_fault : Option ℕ → Option FindFault

@@ -7,16 +7,16 @@ use Rattle.std.specs.Str.{bytes_eq}
 use Rattle.cn_form.specs.declared.answer_form.DocumentForm.{DocumentForm}
 use Rattle.cn_form.specs.declared.answer_form.DocumentForm.TheVariants as form
 use Rattle.cn_app.specs.Commands.Classify.{HasClassReport, IsHeadReport, given_limit_fault}
-use Rattle.cn_app.specs.FaultText.{is_of_every_table}
-use Rattle.cn_app.specs.Streams.Reading.{HasRead, IsUnread}
-use Rattle.cn_app.specs.Streams.Writing.{HandsOver, Reports}
+use Rattle.cn_io.specs.FaultText.{is_of_every_table}
+use Rattle.cn_io.specs.Streams.Reading.{HasRead, IsUnread}
+use Rattle.cn_io.specs.Streams.Writing.{HandsOver, Reports}
 use Rattle.cn_app.specs.declared.commands.of_several_tables.NamedTable.{NamedTable}
-use Rattle.cn_app.specs.declared.fault.AppFault.{AppFault}
-use Rattle.cn_app.specs.declared.fault.Source.TheVariants.{Table}
-use Rattle.cn_app.specs.declared.report.Outcome.{Outcome}
-use Rattle.cn_app.specs.declared.report.Report.{Report}
+use Rattle.cn_io.specs.declared.fault.AppFault.{AppFault}
+use Rattle.cn_io.specs.declared.fault.Source.TheVariants.{Table}
+use Rattle.cn_io.specs.declared.report.Outcome.{Outcome}
+use Rattle.cn_io.specs.declared.report.Report.{Report}
 use Rattle.cn_app.specs.declared.reports.classify.AskedNumbers.{AskedNumbers}
-use Rattle.cn_app.specs.declared.streams.output.Output.{Output}
+use Rattle.cn_io.specs.declared.streams.output.Output.{Output}
 
 -- none of the tables was read
 abbrev pub AreUnread : {R : Type 0} → List (NamedTable R) → Type 0

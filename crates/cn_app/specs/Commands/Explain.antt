@@ -1,25 +1,25 @@
 -- What `explain` writes: a function of the table and the certificate that it reads, and of the form.
 use Rattle.std.specs.Prelude.{◌≡◌, ◌++◌, ℕ, List, codes, Bool, None, Result, Ok, Err, string_bytes}
 use Rattle.serde_json.specs.Written.{compact_text}
-use Rattle.cn_documents.specs.Explanation.{explanation_markdown}
-use Rattle.cn_forms.specs.Explanation.{Explains}
-use Rattle.cn_forms.specs.Reasons.{explanation_text}
-use Rattle.cn_forms.specs.declared.explained.value.Explanation.{Explanation}
-use Rattle.cn_forms.specs.declared.numbers.TypeNumber.TheVariants.{UpTo}
+use Rattle.cn_markdown.specs.Explanation.{explanation_markdown}
+use Rattle.cn_reasons.specs.Explanation.{Explains}
+use Rattle.cn_text.specs.Explanation.{explanation_text}
+use Rattle.cn_reasons.specs.declared.explanation.Explanation.{Explanation}
+use Rattle.cn_reasons.specs.declared.numbers.TypeNumber.TheVariants.{UpTo}
 use Rattle.cn_json.specs.Explanation.{explanation_data}
 use Rattle.cn_form.specs.Forms.{document_form}
 use Rattle.cn_form.specs.declared.answer_form.AnswerForm.{AnswerForm}
 use Rattle.cn_form.specs.declared.answer_form.DocumentForm.{DocumentForm}
 use Rattle.cn_form.specs.declared.answer_form.DocumentForm.TheVariants as form
 use Rattle.cn_app.specs.Commands.Check.{HasItsNumber}
-use Rattle.cn_app.specs.Steps.{Then}
-use Rattle.cn_app.specs.Texts.Checked.{GivesChecked}
-use Rattle.cn_app.specs.declared.readers.checked.Checked.{Checked}
-use Rattle.cn_app.specs.declared.report.Outcome.TheVariants.{Whole}
-use Rattle.cn_app.specs.declared.report.Report.{Report}
-use Rattle.cn_app.specs.declared.streams.text.Text.{Text}
-use Rattle.cn_app.specs.declared.fault.AppFault.{AppFault}
-use Rattle.cn_app.specs.declared.fault.AppFault.TheVariants.{OutOfMemory}
+use Rattle.cn_io.specs.Steps.{Then}
+use Rattle.cn_io.specs.Texts.Checked.{GivesChecked}
+use Rattle.cn_io.specs.declared.readers.checked.Checked.{Checked}
+use Rattle.cn_io.specs.declared.report.Outcome.TheVariants.{Whole}
+use Rattle.cn_io.specs.declared.report.Report.{Report}
+use Rattle.cn_io.specs.declared.streams.text.Text.{Text}
+use Rattle.cn_io.specs.declared.fault.AppFault.{AppFault}
+use Rattle.cn_io.specs.declared.fault.AppFault.TheVariants.{OutOfMemory}
 
 -- the explanation is of the certificate's number up to its limit
 abbrev pub ExplainsChecked : Checked → Bool → Explanation → Type 0

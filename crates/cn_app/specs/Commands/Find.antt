@@ -9,14 +9,14 @@ use Rattle.cn_search.specs.GreatestLimit.{IsGreatestLimit}
 use Rattle.cn_search.specs.declared.fault.FindFault.{FindFault}
 use Rattle.cn_cert.specs.Certificate.{Certificate, certificate_of}
 use Rattle.cn_cert.specs.CertificateText.{certificate_text}
-use Rattle.cn_app.specs.FaultText.{plain_of}
-use Rattle.cn_app.specs.Steps.{Then}
-use Rattle.cn_app.specs.Texts.Contents.{GivesTable}
-use Rattle.cn_app.specs.declared.report.Outcome.TheVariants.{Whole}
-use Rattle.cn_app.specs.declared.report.Report.{Report}
-use Rattle.cn_app.specs.declared.streams.text.Text.{Text}
-use Rattle.cn_app.specs.declared.fault.AppFault.{AppFault}
-use Rattle.cn_app.specs.declared.fault.AppFault.TheVariants.{Find, OutOfMemory}
+use Rattle.cn_io.specs.FaultText.{plain_of}
+use Rattle.cn_io.specs.Steps.{Then}
+use Rattle.cn_io.specs.Texts.Contents.{GivesTable}
+use Rattle.cn_io.specs.declared.report.Outcome.TheVariants.{Whole}
+use Rattle.cn_io.specs.declared.report.Report.{Report}
+use Rattle.cn_io.specs.declared.streams.text.Text.{Text}
+use Rattle.cn_io.specs.declared.fault.AppFault.{AppFault}
+use Rattle.cn_io.specs.declared.fault.AppFault.TheVariants.{Find, OutOfMemory}
 
 -- the first fault of the limit for the table
 abbrev pub limit_fault : TypeTable → ℕ → Option FindFault

@@ -5,23 +5,23 @@ use Rattle.serde_json.specs.Written.{compact_text}
 use Rattle.cn_table.specs.Faults.{reading}
 use Rattle.cn_table.specs.TypeTable.{TypeTable}
 use Rattle.cn_table.specs.declared.fault.TableFault.{TableFault}
-use Rattle.cn_forms.specs.Grid.{IsGrid}
+use Rattle.cn_text.specs.Grid.{IsGrid}
 use Rattle.cn_flaws.specs.Flaws.{Flaw, flaws_at}
 use Rattle.cn_json.specs.Flaws.{flaws_data}
 use Rattle.cn_form.specs.declared.answer_form.AnswerForm.{AnswerForm}
 use Rattle.cn_form.specs.declared.answer_form.AnswerForm.TheVariants as form
-use Rattle.cn_app.specs.FaultText.{plain_of}
+use Rattle.cn_io.specs.FaultText.{plain_of}
 use Rattle.cn_app.specs.Forms.{if_json}
-use Rattle.cn_app.specs.Steps.{Then}
-use Rattle.cn_app.specs.Streams.Reading.{EndsText}
-use Rattle.cn_app.specs.declared.report.Outcome.{Outcome}
-use Rattle.cn_app.specs.declared.report.Outcome.TheVariants.{Cut, Refused, Whole}
-use Rattle.cn_app.specs.declared.report.Report.{Report}
-use Rattle.cn_app.specs.declared.streams.text.Text.{Text}
-use Rattle.cn_app.specs.declared.fault.AppFault.{AppFault}
-use Rattle.cn_app.specs.declared.fault.AppFault.TheVariants.{OutOfMemory}
-use Rattle.cn_app.specs.declared.fault.AppFault.TheVariants as app
-use Rattle.cn_app.specs.declared.fault.Source.TheVariants.{Table}
+use Rattle.cn_io.specs.Steps.{Then}
+use Rattle.cn_io.specs.Streams.Reading.{EndsText}
+use Rattle.cn_io.specs.declared.report.Outcome.{Outcome}
+use Rattle.cn_io.specs.declared.report.Outcome.TheVariants.{Cut, Refused, Whole}
+use Rattle.cn_io.specs.declared.report.Report.{Report}
+use Rattle.cn_io.specs.declared.streams.text.Text.{Text}
+use Rattle.cn_io.specs.declared.fault.AppFault.{AppFault}
+use Rattle.cn_io.specs.declared.fault.AppFault.TheVariants.{OutOfMemory}
+use Rattle.cn_io.specs.declared.fault.AppFault.TheVariants as app
+use Rattle.cn_io.specs.declared.fault.Source.TheVariants.{Table}
 
 -- a line for each flaw
 abbrev pub flaw_lines : List Flaw → List ℕ

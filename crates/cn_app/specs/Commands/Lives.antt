@@ -14,24 +14,24 @@ use Rattle.cn_lives.specs.Plans.{IsFirstPlan, RecordingPlan}
 use Rattle.cn_lives.specs.Runs.{decisions_after}
 use Rattle.cn_lives.specs.Schedules.{named}
 use Rattle.cn_lives.specs.declared.schedule.Event.{Event}
-use Rattle.cn_life_lines.specs.Steps.{life_step_lines}
-use Rattle.cn_lines.specs.Decisions.{decision_lines}
+use Rattle.cn_plan_text.specs.Lives.{life_step_lines}
+use Rattle.cn_plan_text.specs.Decisions.{decision_lines}
 use Rattle.cn_json.specs.Course.{decisions_data}
 use Rattle.cn_json.specs.Lives.{life_course_data}
 use Rattle.cn_form.specs.declared.answer_form.AnswerForm.{AnswerForm}
-use Rattle.cn_app.specs.Arguments.Lives.{CanBe, GivesLifeLists, GivesProcesses}
-use Rattle.cn_app.specs.FaultText.{plain_of}
+use Rattle.cn_io.specs.Arguments.Lives.{CanBe, GivesLifeLists, GivesProcesses}
+use Rattle.cn_io.specs.FaultText.{plain_of}
 use Rattle.cn_app.specs.Forms.{if_json}
-use Rattle.cn_app.specs.Steps.{Then}
-use Rattle.cn_app.specs.Texts.Contents.{GivesTable}
-use Rattle.cn_app.specs.declared.arguments.list_text.ListText.{ListText}
-use Rattle.cn_app.specs.declared.report.Outcome.TheVariants.{Whole}
-use Rattle.cn_app.specs.declared.report.Report.{Report}
+use Rattle.cn_io.specs.Steps.{Then}
+use Rattle.cn_io.specs.Texts.Contents.{GivesTable}
+use Rattle.cn_io.specs.declared.arguments.list_text.ListText.{ListText}
+use Rattle.cn_io.specs.declared.report.Outcome.TheVariants.{Whole}
+use Rattle.cn_io.specs.declared.report.Report.{Report}
 use Rattle.cn_app.specs.declared.reports.lives.AskedLives.{AskedLives}
-use Rattle.cn_app.specs.declared.streams.text.Text.{Text}
-use Rattle.cn_app.specs.declared.fault.AppFault.{AppFault}
-use Rattle.cn_app.specs.declared.fault.AppFault.TheVariants.{NoRecordingWitness, OutOfMemory}
-use Rattle.cn_app.specs.declared.fault.AppFault.TheVariants.{Schedule}
+use Rattle.cn_io.specs.declared.streams.text.Text.{Text}
+use Rattle.cn_io.specs.declared.fault.AppFault.{AppFault}
+use Rattle.cn_io.specs.declared.fault.AppFault.TheVariants.{NoRecordingWitness, OutOfMemory}
+use Rattle.cn_io.specs.declared.fault.AppFault.TheVariants.{Schedule}
 
 -- ---- the plan
 

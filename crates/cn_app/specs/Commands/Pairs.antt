@@ -7,17 +7,18 @@ use Rattle.cn_pairs.specs.SetNumbers.{AreSetNumbers, set_lists}
 use Rattle.cn_pairs.specs.Smallest.{AreSmallest, NoneHas}
 use Rattle.cn_pairs.specs.declared.pairs.Pairs.{Pairs}
 use Rattle.serde_json.specs.Written.{compact_text}
-use Rattle.cn_documents.specs.Documents.{pairs_markdown, pairs_text}
+use Rattle.cn_markdown.specs.Pairs.{pairs_markdown}
+use Rattle.cn_text.specs.PairLines.{pairs_text}
 use Rattle.cn_json.specs.Pairs.{pairs_data}
 use Rattle.cn_form.specs.declared.answer_form.DocumentForm.{DocumentForm}
 use Rattle.cn_form.specs.declared.answer_form.DocumentForm.TheVariants as form
-use Rattle.cn_app.specs.Steps.{Then}
-use Rattle.cn_app.specs.Texts.Contents.{GivesTable}
-use Rattle.cn_app.specs.declared.report.Outcome.TheVariants.{Whole}
-use Rattle.cn_app.specs.declared.report.Report.{Report}
-use Rattle.cn_app.specs.declared.streams.text.Text.{Text}
-use Rattle.cn_app.specs.declared.fault.AppFault.{AppFault}
-use Rattle.cn_app.specs.declared.fault.AppFault.TheVariants.{OutOfMemory}
+use Rattle.cn_io.specs.Steps.{Then}
+use Rattle.cn_io.specs.Texts.Contents.{GivesTable}
+use Rattle.cn_io.specs.declared.report.Outcome.TheVariants.{Whole}
+use Rattle.cn_io.specs.declared.report.Report.{Report}
+use Rattle.cn_io.specs.declared.streams.text.Text.{Text}
+use Rattle.cn_io.specs.declared.fault.AppFault.{AppFault}
+use Rattle.cn_io.specs.declared.fault.AppFault.TheVariants.{OutOfMemory}
 
 -- the numbers are those of the type, of each of its operations alone and of each pair of them, and
 -- the sets are the smallest with the number of the type; there are none only if no set has it

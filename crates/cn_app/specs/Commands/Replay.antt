@@ -9,22 +9,22 @@ use Rattle.cn_log.specs.Faults.{IsFirstEventFault, replay_fault}
 use Rattle.cn_log.specs.declared.event.CallEnd.{CallEnd}
 use Rattle.cn_log.specs.declared.event.Event.{Event}
 use Rattle.cn_log.specs.declared.fault.EventFault.{EventFault}
-use Rattle.cn_lines.specs.Log.{answer_lines, entry_lines}
+use Rattle.cn_plan_text.specs.Log.{answer_lines, entry_lines}
 use Rattle.cn_json.specs.Log.{log_data}
 use Rattle.cn_form.specs.declared.answer_form.AnswerForm.{AnswerForm}
 use Rattle.cn_app.specs.Answers.{answers_told, has_full, ends_after}
-use Rattle.cn_app.specs.Arguments.Events.{GivesCapacity, GivesEvents, capacity_of, events_in}
-use Rattle.cn_app.specs.Arguments.Events.{events_of, words_of}
+use Rattle.cn_io.specs.Arguments.Events.{GivesCapacity, GivesEvents, capacity_of, events_in}
+use Rattle.cn_io.specs.Arguments.Events.{events_of, words_of}
 use Rattle.cn_app.specs.Forms.{if_json}
-use Rattle.cn_app.specs.Outcomes.{cut_if}
-use Rattle.cn_app.specs.Steps.{Then}
-use Rattle.cn_app.specs.Texts.Openings.{GivesOpening}
-use Rattle.cn_app.specs.declared.arguments.list_text.ListText.{ListText}
-use Rattle.cn_app.specs.declared.readers.opening.OpeningArguments.{OpeningArguments}
-use Rattle.cn_app.specs.declared.report.Outcome.{Outcome}
-use Rattle.cn_app.specs.declared.report.Report.{Report}
-use Rattle.cn_app.specs.declared.fault.AppFault.{AppFault}
-use Rattle.cn_app.specs.declared.fault.AppFault.TheVariants.{OutOfMemory, Replay}
+use Rattle.cn_io.specs.Outcomes.{cut_if}
+use Rattle.cn_io.specs.Steps.{Then}
+use Rattle.cn_io.specs.Texts.Openings.{GivesOpening}
+use Rattle.cn_io.specs.declared.arguments.list_text.ListText.{ListText}
+use Rattle.cn_io.specs.declared.readers.opening.OpeningArguments.{OpeningArguments}
+use Rattle.cn_io.specs.declared.report.Outcome.{Outcome}
+use Rattle.cn_io.specs.declared.report.Report.{Report}
+use Rattle.cn_io.specs.declared.fault.AppFault.{AppFault}
+use Rattle.cn_io.specs.declared.fault.AppFault.TheVariants.{OutOfMemory, Replay}
 
 -- cut where some call found no slot
 abbrev pub outcome_of_answers : List (ℕ × CallEnd) → Outcome

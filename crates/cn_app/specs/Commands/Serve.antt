@@ -9,21 +9,21 @@ use Rattle.cn_log.specs.Linearized.{IsLinearized}
 use Rattle.cn_log.specs.Log.{IsEventList}
 use Rattle.cn_log.specs.OwnSteps.{IsWaitFree}
 use Rattle.cn_form.specs.declared.answer_form.AnswerForm.{AnswerForm}
-use Rattle.cn_app.specs.Arguments.Calls.{GivesCalls, calls_fit, calls_in, calls_of}
-use Rattle.cn_app.specs.Arguments.Events.{GivesCapacity, capacity_of}
-use Rattle.cn_app.specs.Outcomes.{cut_if}
-use Rattle.cn_app.specs.Steps.{Then}
-use Rattle.cn_app.specs.Texts.Openings.{GivesOpening}
-use Rattle.cn_app.specs.declared.arguments.list_text.ListText.{ListText}
-use Rattle.cn_app.specs.declared.readers.opening.OpeningArguments.{OpeningArguments}
-use Rattle.cn_app.specs.declared.report.Report.{Report}
-use Rattle.cn_app.specs.Threads.Serving.{HasServed}
+use Rattle.cn_io.specs.Arguments.Calls.{GivesCalls, calls_fit, calls_in, calls_of}
+use Rattle.cn_io.specs.Arguments.Events.{GivesCapacity, capacity_of}
+use Rattle.cn_io.specs.Outcomes.{cut_if}
+use Rattle.cn_io.specs.Steps.{Then}
+use Rattle.cn_io.specs.Texts.Openings.{GivesOpening}
+use Rattle.cn_io.specs.declared.arguments.list_text.ListText.{ListText}
+use Rattle.cn_io.specs.declared.readers.opening.OpeningArguments.{OpeningArguments}
+use Rattle.cn_io.specs.declared.report.Report.{Report}
+use Rattle.cn_service.specs.Serving.{HasServed}
 use Rattle.cn_app.specs.Lines.Threads.{service_text}
-use Rattle.cn_app.specs.declared.report.Outcome.{Outcome}
-use Rattle.cn_app.specs.declared.threads.workers.ProcessHistory.{ProcessHistory}
-use Rattle.cn_app.specs.declared.fault.AppFault.{AppFault}
-use Rattle.cn_app.specs.declared.fault.AppFault.TheVariants.{Argument, OutOfMemory, Thread}
-use Rattle.cn_app.specs.declared.fault.Argument.TheVariants.{Calls}
+use Rattle.cn_io.specs.declared.report.Outcome.{Outcome}
+use Rattle.cn_service.specs.declared.workers.ProcessHistory.{ProcessHistory}
+use Rattle.cn_io.specs.declared.fault.AppFault.{AppFault}
+use Rattle.cn_io.specs.declared.fault.AppFault.TheVariants.{Argument, OutOfMemory, Thread}
+use Rattle.cn_io.specs.declared.fault.Argument.TheVariants.{Calls}
 
 -- cut where some call has no reply
 abbrev pub outcome_of_calls : List ProcessHistory → Outcome

@@ -9,19 +9,19 @@ use Rattle.cn_stocks.specs.declared.lasting.search.Lasting.{Lasting}
 use Rattle.cn_search.specs.Numbers.{HasNumber}
 use Rattle.cn_search.specs.declared.exact.ConsensusNumber.{ConsensusNumber}
 use Rattle.cn_cert.specs.Certificate.{Certificate}
-use Rattle.cn_forms.specs.Explanation.{Explains}
-use Rattle.cn_forms.specs.declared.explained.value.Explanation.{Explanation}
-use Rattle.cn_forms.specs.declared.numbers.TypeNumber.TheVariants.{Exact}
+use Rattle.cn_reasons.specs.Explanation.{Explains}
+use Rattle.cn_reasons.specs.declared.explanation.Explanation.{Explanation}
+use Rattle.cn_reasons.specs.declared.numbers.TypeNumber.TheVariants.{Exact}
 use Rattle.cn_form.specs.declared.answer_form.DocumentForm.{DocumentForm}
 use Rattle.cn_app.specs.Commands.Explain.{explanation_in, IsExplainReport}
 use Rattle.cn_app.specs.Commands.Find.{GivesFound, IsFoundCertificate, IsLimitFor}
-use Rattle.cn_app.specs.Steps.{Then}
-use Rattle.cn_app.specs.Texts.Contents.{GivesTable}
-use Rattle.cn_app.specs.declared.report.Outcome.TheVariants.{Whole}
-use Rattle.cn_app.specs.declared.report.Report.{Report}
-use Rattle.cn_app.specs.declared.streams.text.Text.{Text}
-use Rattle.cn_app.specs.declared.fault.AppFault.{AppFault}
-use Rattle.cn_app.specs.declared.fault.AppFault.TheVariants.{OutOfMemory}
+use Rattle.cn_io.specs.Steps.{Then}
+use Rattle.cn_io.specs.Texts.Contents.{GivesTable}
+use Rattle.cn_io.specs.declared.report.Outcome.TheVariants.{Whole}
+use Rattle.cn_io.specs.declared.report.Report.{Report}
+use Rattle.cn_io.specs.declared.streams.text.Text.{Text}
+use Rattle.cn_io.specs.declared.fault.AppFault.{AppFault}
+use Rattle.cn_io.specs.declared.fault.AppFault.TheVariants.{OutOfMemory}
 
 -- the result of `why` for a table and a limit: that of `explain` for the certificate that `find`
 -- finds

@@ -2,20 +2,20 @@
 use Rattle.std.specs.Prelude.{◌≡◌, ◌++◌, ℕ, List, codes, Bool, Result, Ok, Err, string_bytes}
 use Rattle.serde_json.specs.Written.{compact_text}
 use Rattle.cn_table.specs.TypeTable.{TypeTable}
-use Rattle.cn_recover_reasons.specs.Explanation.{ExplainsRecoverable}
-use Rattle.cn_recover_reasons.specs.Markdown.{recoverable_markdown}
-use Rattle.cn_recover_reasons.specs.Text.{recoverable_text}
-use Rattle.cn_recover_reasons.specs.declared.value.RecoverableExplanation.{RecoverableExplanation}
+use Rattle.cn_reasons.specs.Recoverable.{ExplainsRecoverable}
+use Rattle.cn_markdown.specs.Recoverable.{recoverable_markdown}
+use Rattle.cn_text.specs.Recoverable.{recoverable_text}
+use Rattle.cn_reasons.specs.declared.recoverable.RecoverableExplanation.{RecoverableExplanation}
 use Rattle.cn_json.specs.Recoverable.{recoverable_data}
 use Rattle.cn_form.specs.declared.answer_form.DocumentForm.{DocumentForm}
 use Rattle.cn_form.specs.declared.answer_form.DocumentForm.TheVariants as form
-use Rattle.cn_app.specs.Steps.{Then}
-use Rattle.cn_app.specs.Texts.Contents.{GivesTable}
-use Rattle.cn_app.specs.declared.report.Outcome.TheVariants.{Whole}
-use Rattle.cn_app.specs.declared.report.Report.{Report}
-use Rattle.cn_app.specs.declared.streams.text.Text.{Text}
-use Rattle.cn_app.specs.declared.fault.AppFault.{AppFault}
-use Rattle.cn_app.specs.declared.fault.AppFault.TheVariants.{OutOfMemory}
+use Rattle.cn_io.specs.Steps.{Then}
+use Rattle.cn_io.specs.Texts.Contents.{GivesTable}
+use Rattle.cn_io.specs.declared.report.Outcome.TheVariants.{Whole}
+use Rattle.cn_io.specs.declared.report.Report.{Report}
+use Rattle.cn_io.specs.declared.streams.text.Text.{Text}
+use Rattle.cn_io.specs.declared.fault.AppFault.{AppFault}
+use Rattle.cn_io.specs.declared.fault.AppFault.TheVariants.{OutOfMemory}
 
 -- the text of an explanation in a form
 abbrev pub recoverable_in : DocumentForm → RecoverableExplanation → List ℕ

@@ -12,13 +12,13 @@ use Rattle.cn_log.specs.declared.event.CallEnd.TheVariants.{Answered, Full}
 use Rattle.cn_log.specs.declared.event.Reply.{Reply}
 use Rattle.cn_hall.specs.declared.call.CallFault.{CallFault}
 use Rattle.cn_hall.specs.declared.call.CallFault.TheVariants.{LogFull, Stopped}
-use Rattle.cn_lines.specs.Events.{events_line}
-use Rattle.cn_lines.specs.Log.{answer_line, entry_lines, reply_lines, RepliesHaveResponses}
+use Rattle.cn_plan_text.specs.Events.{events_line}
+use Rattle.cn_plan_text.specs.Log.{answer_line, entry_lines, reply_lines, RepliesHaveResponses}
 use Rattle.cn_json.specs.Log.{service_data}
 use Rattle.cn_form.specs.declared.answer_form.AnswerForm.{AnswerForm}
 use Rattle.cn_json.specs.declared.log.AnswerOf.{AnswerOf}
 use Rattle.cn_app.specs.Forms.{if_json}
-use Rattle.cn_app.specs.declared.threads.workers.ProcessHistory.{ProcessHistory}
+use Rattle.cn_service.specs.declared.workers.ProcessHistory.{ProcessHistory}
 
 -- the line of the call that has no reply, if there is one
 abbrev pub fault_line : TypeTable → ℕ → Option CallFault → List ℕ

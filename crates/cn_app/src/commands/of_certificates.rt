@@ -5,22 +5,15 @@ ghost use Rattle.cn_app.specs.Commands.Agree.{HasAgreeReport, SpellLists};
 ghost use Rattle.cn_app.specs.Commands.Check.{HasCheckReport};
 ghost use Rattle.cn_app.specs.Commands.Explain.{HasExplainReport};
 ghost use Rattle.cn_app.specs.Commands.Show.{HasShowReport};
-ghost use Rattle.cn_app.specs.Texts.Checked.{AreUntouched, HaveReadBoth};
-ghost use Rattle.cn_app.specs.Streams.Reading.{IsUnread};
-ghost use Rattle.cn_app.specs.Streams.Writing.{IsWritable, Reports};
+ghost use Rattle.cn_io.specs.Texts.Checked.{AreUntouched, HaveReadBoth};
+ghost use Rattle.cn_io.specs.Streams.Reading.{IsUnread};
+ghost use Rattle.cn_io.specs.Streams.Writing.{IsWritable, Reports};
 
-use crate::arguments::list_text::ListText;
-use crate::arguments::lists::read_run_lists;
-use crate::fault::AppFault;
-use crate::readers::accepted::check_certificate;
-use crate::readers::checked::read_checked;
-use crate::readers::table::read_table;
-use crate::report::Outcome;
 use crate::reports::check::verdict_report;
 use crate::reports::{AskedRun, agree_report, explain_report, show_report};
-use crate::streams::output::Output;
-use crate::streams::text::Text;
 use cn_form::{AnswerForm, PlanForm};
+use cn_io::readers::{check_certificate, read_checked, read_table};
+use cn_io::{AppFault, ListText, Outcome, Output, Text, read_run_lists};
 use std::alloc::Global;
 use std::io::{Read, Write};
 
@@ -105,7 +98,7 @@ pub fn show<R: Read, C: Read, W: Write>(
     ensures read { HaveReadBoth R.remaining C.remaining table.old table.new
         certificate.old certificate.new }
     // promise: plan-by-show (HasShowReport: GivesChecked, IsPlanOf; form_text: plan_text,
-    //     plan_json, plan_dot, plan_promela, rust_text, c_text)
+    //     plan_data, plan_dot, plan_promela, rust_text, c_text)
     ensures shown { Reports W.contents (HasShowReport table.new certificate.new form)
         output.old output.new result }
 {

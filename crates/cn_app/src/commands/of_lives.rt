@@ -1,18 +1,13 @@
 //! The command that runs processes which crash and come back.
 ghost use Rattle.std.specs.Prelude.{◌≡◌, ◌⊎◌};
-ghost use Rattle.cn_app.specs.Arguments.Lives.{SpellLifeLists};
+ghost use Rattle.cn_io.specs.Arguments.Lives.{SpellLifeLists};
 ghost use Rattle.cn_app.specs.Commands.Lives.{HasLivesReport};
-ghost use Rattle.cn_app.specs.Streams.Reading.{HasRead, IsUnread};
-ghost use Rattle.cn_app.specs.Streams.Writing.{IsWritable, Reports};
+ghost use Rattle.cn_io.specs.Streams.Reading.{HasRead, IsUnread};
+ghost use Rattle.cn_io.specs.Streams.Writing.{IsWritable, Reports};
 
-use crate::arguments::list_text::ListText;
-use crate::arguments::lives::read_life_lists;
-use crate::fault::{AppFault, Source};
-use crate::readers::table::read_table;
-use crate::report::Outcome;
 use crate::reports::{AskedLives, lives_report};
-use crate::streams::output::Output;
-use crate::streams::text::Text;
+use cn_io::readers::read_table;
+use cn_io::{AppFault, ListText, Outcome, Output, Source, Text, read_life_lists};
 use std::alloc::Global;
 use std::io::{Read, Write};
 use std::thread::Threads;

@@ -1,25 +1,22 @@
 //! The commands that serve an object.
 ghost use Rattle.std.specs.Prelude.{◌≡◌, ◌⊎◌, ℕ, map};
 ghost use Rattle.cn_hall.specs.declared.call.Go.TheVariants.{On};
-ghost use Rattle.cn_app.specs.Arguments.Calls.{calls_in};
-ghost use Rattle.cn_app.specs.Arguments.Events.{events_in, words_of};
+ghost use Rattle.cn_io.specs.Arguments.Calls.{calls_in};
+ghost use Rattle.cn_io.specs.Arguments.Events.{events_in, words_of};
 ghost use Rattle.cn_app.specs.Commands.Replay.{HasReplayReport, IsReplayReport, SpellEvents};
 ghost use Rattle.cn_app.specs.Commands.Serve.{HasServeReport, IsServeReport, SpellCalls};
-ghost use Rattle.cn_app.specs.Texts.Openings.{AreArgumentsUnread, HaveReadAll};
-ghost use Rattle.cn_app.specs.Threads.Workers.{EachHasOneGate};
-ghost use Rattle.cn_app.specs.Streams.Writing.{IsWritable, Reports};
+ghost use Rattle.cn_io.specs.Texts.Openings.{AreArgumentsUnread, HaveReadAll};
+ghost use Rattle.cn_service.specs.Workers.{EachHasOneGate};
+ghost use Rattle.cn_io.specs.Streams.Writing.{IsWritable, Reports};
 
-use crate::arguments::calls::{calls_in, read_calls};
-use crate::arguments::events::{EventList, read_capacity, read_events};
-use crate::arguments::list_text::ListText;
-use crate::arguments::operations::OperationWord;
-use crate::fault::AppFault;
-use crate::readers::opening::{OpeningArguments, read_opening};
-use crate::report::{Outcome, Report};
 use crate::reports::{replay_report, serve_report};
-use crate::streams::output::Output;
 use cn_form::AnswerForm;
 use cn_hall::Gate;
+use cn_io::readers::{OpeningArguments, read_opening};
+use cn_io::{
+    AppFault, EventList, ListText, OperationWord, Outcome, Output, Report, calls_in, read_calls,
+    read_capacity, read_events,
+};
 use cn_log::Opening;
 use std::alloc::Global;
 use std::io::{Read, Write};

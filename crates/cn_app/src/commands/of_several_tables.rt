@@ -4,16 +4,13 @@ ghost use Rattle.cn_app.specs.Commands.Classify.{HasClassReport, given_limit_fau
 ghost use Rattle.cn_app.specs.Commands.ClassifyEach.{AreClassified, AreClassifiedIn, AreRows};
 ghost use Rattle.cn_app.specs.Commands.ClassifyEach.{AreUnread, HasClassified, IsFirst, Notes};
 ghost use Rattle.cn_app.specs.Commands.ClassifyEach.{Writes, has_line, names_with};
-ghost use Rattle.cn_app.specs.Streams.Reading.{HasRead, IsUnread};
-ghost use Rattle.cn_app.specs.Streams.Writing.{IsWritable};
+ghost use Rattle.cn_io.specs.Streams.Reading.{HasRead, IsUnread};
+ghost use Rattle.cn_io.specs.Streams.Writing.{IsWritable};
 
 use crate::commands::of_tables::class_report_of;
-use crate::fault::{AppFault, Source};
-use crate::report::{Outcome, Report};
 use crate::reports::{AskedNumbers, head_report};
-use crate::streams::output::Output;
-use crate::streams::text::Text;
 use cn_form::DocumentForm;
+use cn_io::{AppFault, Outcome, Output, Report, Source, Text};
 use std::alloc::Global;
 use std::io::{Read, Write};
 use std::thread::Threads;
@@ -32,7 +29,7 @@ pub struct NamedTable<'a, R> {
 /// Where faults and notes are told.
 pub trait Tell {
     ghost use Rattle.std.specs.Prelude.{ℕ, List, Option, option_map};
-    ghost use Rattle.cn_app.specs.declared.fault.AppFault.{AppFault as Fault};
+    ghost use Rattle.cn_io.specs.declared.fault.AppFault.{AppFault as Fault};
 
     /// What telling makes of it: before, the name of the table, the fault, and after. Each has a
     /// relation of its own.

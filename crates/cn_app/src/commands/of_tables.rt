@@ -7,19 +7,16 @@ ghost use Rattle.cn_app.specs.Commands.Lint.{HasLintReport};
 ghost use Rattle.cn_app.specs.Commands.Pairs.{HasPairsReport};
 ghost use Rattle.cn_app.specs.Commands.Why.{HasWhyReport};
 ghost use Rattle.cn_app.specs.Commands.WhyRecoverable.{HasWhyRecoverableReport};
-ghost use Rattle.cn_app.specs.Streams.Reading.{HasRead, IsUnread};
-ghost use Rattle.cn_app.specs.Streams.Writing.{IsWritable, Reports};
+ghost use Rattle.cn_io.specs.Streams.Reading.{HasRead, IsUnread};
+ghost use Rattle.cn_io.specs.Streams.Writing.{IsWritable, Reports};
 
-use crate::fault::{AppFault, Source};
-use crate::readers::table::read_table;
-use crate::report::{Outcome, Report};
 use crate::reports::{
     AskedNumbers, check_limit, draw_report, find_report, limit_for, lint_report, numbers_report,
     pairs_report, why_recoverable_report, why_report,
 };
-use crate::streams::output::Output;
-use crate::streams::text::Text;
 use cn_form::{AnswerForm, DocumentForm};
+use cn_io::readers::read_table;
+use cn_io::{AppFault, Outcome, Output, Report, Source, Text};
 use std::alloc::Global;
 use std::io::{Read, Write};
 use std::thread::Threads;

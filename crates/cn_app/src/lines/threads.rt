@@ -1,22 +1,21 @@
 //! The text of a service: the calls of each process, the entries of the log, and the events.
 ghost use Rattle.std.specs.Prelude.{◌≡◌, ◌≤◌, ◌<◌, ◌++◌, length, string_bytes, IfOk, OnOk};
 ghost use Rattle.cn_choice.specs.declared.limits.TheConstants.{MOST_PROCESSES};
-ghost use Rattle.cn_lines.specs.Log.{RepliesHaveResponses};
+ghost use Rattle.cn_plan_text.specs.Log.{RepliesHaveResponses};
 ghost use Rattle.cn_app.specs.Lines.Threads.{EachHasResponses};
 ghost use Rattle.cn_app.specs.Lines.Threads.{call_lines, end_by, fault_answers};
 ghost use Rattle.cn_app.specs.Lines.Threads.{fault_line, history_answers, history_lines};
 ghost use Rattle.cn_app.specs.Lines.Threads.{reply_answers};
 ghost use Rattle.cn_app.specs.Lines.Threads.{service_lines, service_object, service_text};
 
-use crate::report::with_line_feed;
-use crate::threads::serving::ServiceHistory;
-use crate::threads::workers::ProcessHistory;
 use cn_form::AnswerForm;
 use cn_hall::{CallFault, Reply};
+use cn_io::with_line_feed;
 use cn_json::{AnswerOf, service_json};
-use cn_lines::{entry_lines, events_line, put_answer_line, put_number, reply_lines};
 use cn_log::CallEnd;
 use cn_log::laws::logs_are_linearized;
+use cn_plan_text::{entry_lines, events_line, push_answer_line, reply_lines};
+use cn_service::{ProcessHistory, ServiceHistory};
 use cn_table::{State, Table};
 use std::alloc::{AllocError, Global};
 
@@ -32,12 +31,8 @@ fn put_fault_line(
 {
     match fault {
         None => Ok(()),
-        Some(CallFault::LogFull) => put_answer_line(lines, object, process, CallEnd::Full),
-        Some(CallFault::Stopped) => {
-            lines.push_str("stopped ")?;
-            put_number(lines, u16::from(process))?;
-            lines.push_str("\n")
-        }
+        Some(CallFault::LogFull) => push_answer_line(lines, object, process, CallEnd::Full),
+        Some(CallFault::Stopped) => write!(lines, "stopped {process}\n"),
     }
 }
 

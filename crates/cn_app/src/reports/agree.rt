@@ -2,20 +2,19 @@
 ghost use Rattle.std.specs.Prelude.{◌≡◌, ◌++◌, IfOk, codes, false, string_bytes, true};
 ghost use Rattle.serde_json.specs.Written.{compact_text};
 ghost use Rattle.cn_agree.specs.Actions.{AreOfTable};
-ghost use Rattle.cn_lines.specs.Decisions.{decision_lines};
-ghost use Rattle.cn_lines.specs.Steps.{step_lines};
+ghost use Rattle.cn_plan_text.specs.Decisions.{decision_lines};
+ghost use Rattle.cn_plan_text.specs.Steps.{step_lines};
 ghost use Rattle.cn_json.specs.Course.{course_data, decisions_data};
 ghost use Rattle.cn_app.specs.Commands.Agree.{IsAgreeReport, IsRunReport};
 ghost use Rattle.cn_app.specs.Forms.{if_json};
-ghost use Rattle.cn_app.specs.Texts.Checked.{IsChecked};
+ghost use Rattle.cn_io.specs.Texts.Checked.{IsChecked};
 
-use crate::fault::AppFault;
-use crate::readers::checked::Checked;
-use crate::report::{Report, with_line_feed};
 use cn_agree::{Course, run_schedule, run_steps};
 use cn_form::AnswerForm;
+use cn_io::readers::Checked;
+use cn_io::{AppFault, Report, with_line_feed};
 use cn_json::{course_json, decisions_json};
-use cn_lines::{decision_lines, step_lines};
+use cn_plan_text::{decision_lines, step_lines};
 use cn_proto::Plan;
 use cn_table::Table;
 use std::alloc::{AllocError, Global};

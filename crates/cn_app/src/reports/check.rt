@@ -5,13 +5,12 @@ ghost use Rattle.cn_json.specs.Verdict.{accepted_data};
 ghost use Rattle.cn_form.specs.declared.answer_form.AnswerForm.TheVariants.{Json};
 ghost use Rattle.cn_app.specs.Commands.Check.{IsFaultReport, IsOkReport, IsVerdictReport};
 ghost use Rattle.cn_app.specs.Forms.{if_json};
-ghost use Rattle.cn_app.specs.declared.fault.AppFault.TheVariants.{OutOfMemory};
-ghost use Rattle.cn_app.specs.declared.report.Outcome.TheVariants.{Refused};
+ghost use Rattle.cn_io.specs.declared.fault.AppFault.TheVariants.{OutOfMemory};
+ghost use Rattle.cn_io.specs.declared.report.Outcome.TheVariants.{Refused};
 
-use crate::fault::AppFault;
-use crate::report::{Outcome, Report, with_line_feed};
 use cn_check::laws::accepted_is_right;
 use cn_form::AnswerForm;
+use cn_io::{AppFault, Outcome, Report, with_line_feed};
 use cn_json::{unread_json, verdict_json};
 use std::alloc::{AllocError, Global};
 

@@ -1,6 +1,6 @@
 //! The report of `classify`.
 ghost use Rattle.std.specs.Prelude.{◌≡◌, IfErr, IfOk, None, Some, option_map, string_bytes};
-ghost use Rattle.cn_documents.specs.Documents.{numbers_row};
+ghost use Rattle.cn_markdown.specs.Numbers.{numbers_row};
 ghost use Rattle.cn_search.specs.declared.fault.FindFault.TheVariants.{OutOfMemory};
 ghost use Rattle.cn_app.specs.Commands.Classify.{AreBothNumbers, GivesLimit, IsClassificationOf};
 ghost use Rattle.cn_app.specs.Commands.Classify.{IsHeadReport, IsNumbersReport, IsTypeNumber};
@@ -8,12 +8,11 @@ ghost use Rattle.cn_app.specs.Commands.Classify.{classification_in, classificati
 ghost use Rattle.cn_app.specs.Commands.Classify.{given_limit_fault, line_with, line_with_both};
 ghost use Rattle.cn_app.specs.Commands.Classify.{number_words, words_of};
 
-use crate::fault::AppFault;
-use crate::report::{Report, with_line_feed};
-use cn_documents::{number_head, number_row};
 use cn_form::DocumentForm;
-use cn_forms::TypeNumber;
+use cn_io::{AppFault, Report, with_line_feed};
 use cn_json::{Classification, classification_json};
+use cn_markdown::{number_head, number_row};
+use cn_reasons::TypeNumber;
 use cn_recover::{both_numbers, recoverable_number};
 use cn_search::{FindFault, consensus_number, number};
 use cn_table::Table;

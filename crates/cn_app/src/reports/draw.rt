@@ -1,10 +1,9 @@
 //! The report of `draw`.
 ghost use Rattle.cn_app.specs.Commands.Draw.{IsDrawReport};
 
-use crate::fault::AppFault;
-use crate::report::Report;
-use cn_forms::diagram_of;
+use cn_io::{AppFault, Report};
 use cn_table::Table;
+use cn_text::diagram_of;
 use std::alloc::Global;
 
 /// A picture of the table for Graphviz: the states, and the arrows between them. An arrow has a

@@ -1,18 +1,18 @@
 //! The report of `explain`.
 ghost use Rattle.std.specs.Prelude.{◌≡◌, IfErr, IfOk, string_bytes};
-ghost use Rattle.cn_forms.specs.Explanation.{IsExplanation};
+ghost use Rattle.cn_reasons.specs.Explanation.{IsExplanation};
 ghost use Rattle.cn_app.specs.Commands.Explain.{explanation_in, ExplainsChecked, IsExplainReport};
-ghost use Rattle.cn_app.specs.declared.fault.AppFault.TheVariants.{OutOfMemory};
-ghost use Rattle.cn_app.specs.Texts.Checked.{IsChecked};
+ghost use Rattle.cn_io.specs.declared.fault.AppFault.TheVariants.{OutOfMemory};
+ghost use Rattle.cn_io.specs.Texts.Checked.{IsChecked};
 
-use crate::fault::AppFault;
-use crate::readers::checked::Checked;
-use crate::report::{Report, with_line_feed};
 use cn_check::laws::accepted_is_right;
-use cn_documents::explanation_markdown;
 use cn_form::DocumentForm;
-use cn_forms::{Explanation, TypeNumber, explanation_of};
+use cn_io::readers::Checked;
+use cn_io::{AppFault, Report, with_line_feed};
 use cn_json::explanation_json;
+use cn_markdown::explanation_markdown;
+use cn_reasons::{Explanation, TypeNumber};
+use cn_text::explanation_of;
 use std::alloc::{AllocError, Global};
 
 /// What there is to tell of a certificate and its number up to its limit.

@@ -1,10 +1,9 @@
 //! The report of `find`.
 ghost use Rattle.cn_app.specs.Commands.Find.{GivesFound, IsFindReport, IsLimitFor};
 
-use crate::fault::AppFault;
-use crate::report::Report;
 use cn_cert::Certificate;
 use cn_find_text::find_text;
+use cn_io::{AppFault, Report};
 use cn_search::greatest_limit;
 use cn_table::Table;
 use std::alloc::Global;

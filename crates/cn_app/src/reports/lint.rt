@@ -3,15 +3,14 @@ ghost use Rattle.std.specs.Prelude.{◌≡◌, ◌≤◌, ◌<◌, ◌^◌, IfOk
 ghost use Rattle.cn_flaws.specs.Flaws.{flaw_view};
 ghost use Rattle.cn_app.specs.Commands.Lint.{HasFlawText, IsLintReport, IsTableText, flaw_json, flaw_lines};
 ghost use Rattle.cn_app.specs.Forms.{if_json};
-ghost use Rattle.cn_app.specs.declared.limits.TheConstants.{MOST_TABLE_BYTES};
+ghost use Rattle.cn_io.specs.declared.limits.TheConstants.{MOST_TABLE_BYTES};
 
-use crate::fault::AppFault;
-use crate::report::{Outcome, Report, with_line_feed};
 use cn_flaws::{Flaw, flaws};
 use cn_form::AnswerForm;
-use cn_forms::grid_of;
+use cn_io::{AppFault, Outcome, Report, with_line_feed};
 use cn_json::flaws_json;
 use cn_table::{Table, TableFault, read_table};
+use cn_text::grid_of;
 use std::alloc::{AllocError, Global};
 
 fn lines_of(alloc: Global, flaws: &[Flaw]) -> Result<String, AllocError>
@@ -55,7 +54,7 @@ fn table_text(alloc: Global, table: &Table, form: AnswerForm) -> Result<String, 
     }
 }
 
-/// The output of `lint`: the grid of a table ([`grid_of`](cn_forms::grid_of)), or a line for each
+/// The output of `lint`: the grid of a table ([`grid_of`](cn_text::grid_of)), or a line for each
 /// flaw of bytes that spell none ([`flaws`](cn_flaws::flaws)). If the bytes are refused, the
 /// outcome has their fault. As JSON, the output has the flaws, none of a table ([`flaws_json`]).
 ///

@@ -2,23 +2,20 @@
 ghost use Rattle.std.specs.Prelude.{◌≡◌, ◌++◌, IfOk, codes, false, string_bytes, true};
 ghost use Rattle.serde_json.specs.Written.{compact_text};
 ghost use Rattle.cn_lives.specs.Courses.{AreOfTable};
-ghost use Rattle.cn_life_lines.specs.Steps.{life_step_lines};
-ghost use Rattle.cn_lines.specs.Decisions.{decision_lines};
+ghost use Rattle.cn_plan_text.specs.Lives.{life_step_lines};
+ghost use Rattle.cn_plan_text.specs.Decisions.{decision_lines};
 ghost use Rattle.cn_json.specs.Lives.{life_course_data};
-ghost use Rattle.cn_app.specs.Arguments.Lives.{CanBe};
+ghost use Rattle.cn_io.specs.Arguments.Lives.{CanBe};
 ghost use Rattle.cn_app.specs.Commands.Lives.{GivesCount, GivesLivesPlan, IsLivesReport};
 ghost use Rattle.cn_app.specs.Commands.Lives.{IsLivesRunReport};
 ghost use Rattle.cn_app.specs.Forms.{if_json};
 
-use crate::arguments::lives::check_processes;
-use crate::fault::AppFault;
-use crate::report::{Report, with_line_feed};
 use crate::reports::agree::decision_text;
 use cn_form::AnswerForm;
+use cn_io::{AppFault, Report, check_processes, with_line_feed};
 use cn_json::life_course_json;
-use cn_life_lines::life_step_lines;
-use cn_lines::decision_lines;
 use cn_lives::{Event, LifeCourse, RecordingPlan, first_plan, run_life_steps, run_lives};
+use cn_plan_text::{decision_lines, life_step_lines};
 use cn_recover::recoverable_number;
 use cn_search::GREATEST_LIMIT;
 use cn_table::Table;

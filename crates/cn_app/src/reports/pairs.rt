@@ -2,13 +2,13 @@
 ghost use Rattle.std.specs.Prelude.{◌≡◌, IfOk, string_bytes};
 ghost use Rattle.cn_app.specs.Commands.Pairs.{ArePairs, IsPairsReport, pairs_in};
 
-use crate::fault::AppFault;
-use crate::report::{Report, with_line_feed};
-use cn_documents::{pairs_lines, pairs_table};
 use cn_form::DocumentForm;
+use cn_io::{AppFault, Report, with_line_feed};
 use cn_json::pairs_json;
+use cn_markdown::pairs_table;
 use cn_pairs::{Pairs, pairs_of};
 use cn_table::Table;
+use cn_text::pairs_lines;
 use std::alloc::{AllocError, Global};
 use std::thread::Threads;
 

@@ -1,6 +1,6 @@
 //! The report of `replay`.
 ghost use Rattle.std.specs.Prelude.{◌≡◌, IfOk, map, string_bytes};
-ghost use Rattle.cn_lines.specs.Log.{HaveResponses};
+ghost use Rattle.cn_plan_text.specs.Log.{HaveResponses};
 ghost use Rattle.cn_log.specs.Linearized.{IsLinearized};
 ghost use Rattle.cn_log.specs.Log.{IsEventList};
 ghost use Rattle.cn_log.specs.Opening.{setting_of};
@@ -8,12 +8,11 @@ ghost use Rattle.cn_app.specs.Answers.{answer_of, answers_told, has_full, is_ful
 ghost use Rattle.cn_app.specs.Commands.Replay.{IsReplayReport, log_lines, log_object, log_text};
 
 use crate::answers::{ReplayHistory, answers_of};
-use crate::fault::AppFault;
-use crate::report::{Outcome, Report, with_line_feed};
 use cn_form::AnswerForm;
+use cn_io::{AppFault, Outcome, Report, with_line_feed};
 use cn_json::{AnswerOf, log_json};
-use cn_lines::{answer_lines, entry_lines};
 use cn_log::{CallEnd, Event, Opening};
+use cn_plan_text::{answer_lines, entry_lines};
 use std::alloc::{AllocError, Global};
 
 /// Whether the call found no slot.

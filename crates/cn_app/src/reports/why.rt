@@ -1,16 +1,15 @@
 //! The report of `why`.
 ghost use Rattle.std.specs.Prelude.{◌≡◌, IfErr, IfOk};
 ghost use Rattle.cn_app.specs.Commands.Why.{ExplainsNumber, IsLimitedReport, IsReasonsReport, IsWhyReport};
-ghost use Rattle.cn_app.specs.declared.fault.AppFault.TheVariants.{OutOfMemory};
+ghost use Rattle.cn_io.specs.declared.fault.AppFault.TheVariants.{OutOfMemory};
 
-use crate::fault::AppFault;
-use crate::readers::checked::Checked;
-use crate::report::Report;
 use crate::reports::explain::{explain_report, text_of};
 use crate::reports::find::{found_certificate, limit_for};
 use cn_check::laws::accepted_is_right;
 use cn_form::DocumentForm;
-use cn_forms::{Explanation, TypeNumber};
+use cn_io::readers::Checked;
+use cn_io::{AppFault, Report};
+use cn_reasons::{Explanation, TypeNumber};
 use cn_search::consensus_number;
 use cn_stocks::lasting::find_lasting;
 use cn_table::Table;

@@ -1,16 +1,15 @@
 //! The report of `why --recoverable`.
 ghost use Rattle.std.specs.Prelude.{◌≡◌, IfOk, string_bytes};
-ghost use Rattle.cn_recover_reasons.specs.Explanation.{IsRecoverableExplanation};
+ghost use Rattle.cn_reasons.specs.Recoverable.{IsRecoverableExplanation};
 ghost use Rattle.cn_app.specs.Commands.WhyRecoverable.{IsWhyRecoverableReport, recoverable_in};
 
-use crate::fault::AppFault;
-use crate::report::{Report, with_line_feed};
 use cn_form::DocumentForm;
+use cn_io::{AppFault, Report, with_line_feed};
 use cn_json::recoverable_explanation_json;
-use cn_recover_reasons::{
-    RecoverableExplanation, recoverable_explanation_markdown, recoverable_explanation_of,
-};
+use cn_markdown::recoverable_explanation_markdown;
+use cn_reasons::RecoverableExplanation;
 use cn_table::Table;
+use cn_text::recoverable_explanation_of;
 use std::alloc::{AllocError, Global};
 use std::thread::Threads;
 

@@ -1,6 +1,6 @@
 use Rattle.std.proofs.Common.{◌≡◌, ◌≤◌, ◌++◌, [], drop, length, take, vec_capacity}
 use Rattle.cn_log.specs.Opening.{setting_of}
-use Rattle.cn_lines.specs.Log.{HaveResponses}
+use Rattle.cn_plan_text.specs.Log.{HaveResponses}
 use Rattle.cn_app.specs.Answers.{ends_after}
 use Rattle.cn_app.proofs.answers.answers_of.Given as goal
 

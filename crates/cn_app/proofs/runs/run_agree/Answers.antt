@@ -1,7 +1,7 @@
 use Rattle.std.proofs.Common.{None}
 use Rattle.cn_app.specs.Commands.Agree.{HasAgreeReport}
 use Rattle.cn_app.specs.Runs.{agree_of, decisions_in_lines}
-use Rattle.cn_app.specs.declared.arguments.list_text.ListText.TheVariants.{Word}
+use Rattle.cn_io.specs.declared.arguments.list_text.ListText.TheVariants.{Word}
 use Rattle.cn_app.proofs.RunLemmas.{agree_is, of_certificate, of_table, written}
 use Rattle.cn_app.proofs.runs.run_agree.Goals as goal
 

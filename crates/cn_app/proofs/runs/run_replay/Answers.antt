@@ -2,7 +2,7 @@ use Rattle.std.proofs.Common.{None, ap}
 use Rattle.cn_form.specs.declared.answer_form.AnswerForm.TheVariants as answer
 use Rattle.cn_app.specs.Commands.Replay.{HasReplayReport}
 use Rattle.cn_app.specs.Runs.{replay_of}
-use Rattle.cn_app.specs.declared.arguments.list_text.ListText.TheVariants.{Word}
+use Rattle.cn_io.specs.declared.arguments.list_text.ListText.TheVariants.{Word}
 use Rattle.cn_app.proofs.RunLemmas.{of_certificate, of_object, of_table, replay_is, written}
 use Rattle.cn_app.proofs.runs.run_replay.Goals as goal
 

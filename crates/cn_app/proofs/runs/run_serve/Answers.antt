@@ -2,8 +2,8 @@ use Rattle.std.proofs.Common.{None, ap}
 use Rattle.cn_form.specs.declared.answer_form.AnswerForm.TheVariants as answer
 use Rattle.cn_app.specs.Commands.Serve.{HasServeReport}
 use Rattle.cn_app.specs.Runs.{serve_of}
-use Rattle.cn_app.specs.Threads.Workers.{EachHasOneGate}
-use Rattle.cn_app.specs.declared.arguments.list_text.ListText.TheVariants.{Word}
+use Rattle.cn_service.specs.Workers.{EachHasOneGate}
+use Rattle.cn_io.specs.declared.arguments.list_text.ListText.TheVariants.{Word}
 use Rattle.cn_app.proofs.RunLemmas.{of_certificate, of_object, of_table, serve_is, written}
 use Rattle.cn_app.proofs.runs.run_serve.Goals as goal
 

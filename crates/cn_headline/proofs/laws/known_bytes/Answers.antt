@@ -1,8 +1,8 @@
 use Rattle.cn_table.specs.Faults as table
 use Rattle.cn_cert.specs.Reading as certificate
-use Rattle.cn_app.specs.declared.fault.AppFault.TheVariants as fault
-use Rattle.cn_app.specs.declared.fault.Source.TheVariants as source
-use Rattle.cn_app.proofs.StreamLemmas.KnownBytes.{reads_known_bytes}
+use Rattle.cn_io.specs.declared.fault.AppFault.TheVariants as fault
+use Rattle.cn_io.specs.declared.fault.Source.TheVariants as source
+use Rattle.cn_io.proofs.StreamLemmas.KnownBytes.{reads_known_bytes}
 use Rattle.cn_headline.proofs.laws.known_bytes.Goals as goal
 
 pub returns-clause-table : goal.returns-clause-table

@@ -1,7 +1,6 @@
-use Rattle.std.proofs.Common.{◌∙◌}
 use Rattle.cn_json.proofs.Pieces.{piece}
 use Rattle.cn_json.proofs.flaws.write_flaw_members.Goals as goal
 
 pub returns : goal.returns
-returns c = rw (← (c.from.ensures ∙ c.number.ensures), ← c.deref.ensures.value, ← c.as_str.ensures.value)
-    (piece c.in_ok-number_at.ensures (piece c.in_ok-write_path.ensures (piece c.in_ok-text_at.ensures c.end_object.ensures)))
+returns c = rw (← c.number.ensures, ← c.deref.ensures.value, ← c.as_str.ensures.value)
+    (piece c.in_ok-member.ensures (piece c.in_ok-write_path.ensures c.last_members.ensures))

@@ -5,7 +5,5 @@ use Rattle.cn_json.proofs.recoverable.write_explanation.Goals as goal
 pub returns : goal.returns
 unfolding recoverable_data
 returns c = rw (← c.name.ensures.value)
-    (piece c.in_ok-begin_object.ensures (piece c.in_ok-text_at.ensures (piece c.in_ok-key.ensures
-    (piece c.in_ok-write_exact.ensures (piece c.in_ok-key-2.ensures
-    (piece c.in_ok-write_refutation.ensures (piece c.in_ok-key-3.ensures
-    (piece c.in_ok-write_evidence.ensures c.end_object.ensures))))))))
+    (piece c.in_ok-begin_object.ensures (piece c.in_ok-member.ensures (piece c.in_ok-key.ensures (piece c.in_ok-write_exact.ensures
+    (piece c.in_ok-option_at.ensures (piece c.in_ok-option_at-2.ensures c.end_object.ensures))))))

@@ -1,7 +1,7 @@
-use Rattle.cn_json.proofs.Pieces.{piece}
 use Rattle.cn_json.specs.Verdict.{refused_data}
+use Rattle.cn_json.proofs.Pieces.{piece}
 use Rattle.cn_json.proofs.verdict.write_refused.Goals as goal
 
 pub returns : goal.returns
 unfolding refused_data
-returns c = piece c.in_ok-begin_object.ensures (piece c.in_ok-key.ensures (piece c.in_ok-write_fault.ensures (piece c.in_ok-boolean_at.ensures c.end_object.ensures)))
+returns c = piece c.in_ok-begin_object.ensures (piece c.in_ok-key.ensures (piece c.in_ok-write_fault.ensures c.last_members.ensures))

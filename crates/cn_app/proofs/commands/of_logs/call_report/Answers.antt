@@ -1,8 +1,8 @@
 use Rattle.std.proofs.Common.{◌∙◌, ap, inl, map}
 use Rattle.std.proofs.lemmas.Result.{err_from_is_err_and}
 use Rattle.cn_table.specs.TypeTable.{TypeTable}
-use Rattle.cn_app.specs.Arguments.Calls.{calls_in}
-use Rattle.cn_app.specs.Threads.Workers.{EachHasOneGate}
+use Rattle.cn_io.specs.Arguments.Calls.{calls_in}
+use Rattle.cn_service.specs.Workers.{EachHasOneGate}
 use Rattle.cn_app.proofs.CommandLemmas.Calls.{served_as}
 use Rattle.cn_app.proofs.commands.of_logs.call_report.Goals as goal
 

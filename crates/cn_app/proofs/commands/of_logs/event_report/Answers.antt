@@ -2,7 +2,7 @@ use Rattle.std.proofs.Common.{◌∙◌, List, ap, inl, subst}
 use Rattle.std.proofs.lemmas.Result.{err_from_is_err_and}
 use Rattle.cn_table.specs.TypeTable.{TypeTable}
 use Rattle.cn_log.specs.declared.event.Event.{Event}
-use Rattle.cn_app.specs.Arguments.Events.{events_in, words_of}
+use Rattle.cn_io.specs.Arguments.Events.{events_in, words_of}
 use Rattle.cn_app.specs.Commands.Replay.{IsReplayReport}
 use Rattle.cn_app.proofs.commands.of_logs.event_report.Goals as goal
 

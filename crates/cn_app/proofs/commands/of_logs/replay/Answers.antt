@@ -1,6 +1,6 @@
 use Rattle.std.proofs.Common.{inl, inr, refl, ap, ◌∙◌}
 use Rattle.std.proofs.lemmas.Result.{err_from_is_err_and}
-use Rattle.cn_app.specs.Arguments.Events.{capacity_of}
+use Rattle.cn_io.specs.Arguments.Events.{capacity_of}
 use Rattle.cn_app.specs.Commands.Replay.{HasReplayReport}
 use Rattle.cn_app.proofs.CommandLemmas.Reports.{reported, silent}
 use Rattle.cn_app.proofs.commands.of_logs.replay.Goals as goal

@@ -1,10 +1,10 @@
 use Rattle.std.proofs.Common.{inl, inr, refl, ap, map, List, Vec, Global, ◌∙◌}
 use Rattle.std.proofs.lemmas.Result.{err_from_is_err_and}
-use Rattle.cn_app.specs.Arguments.Calls.{calls_in}
-use Rattle.cn_app.specs.Arguments.Events.{capacity_of}
+use Rattle.cn_io.specs.Arguments.Calls.{calls_in}
+use Rattle.cn_io.specs.Arguments.Events.{capacity_of}
 use Rattle.cn_app.specs.Commands.Serve.{HasServeReport}
-use Rattle.cn_app.specs.Threads.Workers.{EachHasOneGate}
-use Rattle.cn_app.specs.declared.arguments.operations.OperationWord.{OperationWord}
+use Rattle.cn_service.specs.Workers.{EachHasOneGate}
+use Rattle.cn_io.specs.declared.arguments.operations.OperationWord.{OperationWord}
 use Rattle.cn_app.proofs.CommandLemmas.Calls.{served_as}
 use Rattle.cn_app.proofs.CommandLemmas.Reports.{reported, silent}
 use Rattle.cn_app.proofs.commands.of_logs.serve.Goals as goal

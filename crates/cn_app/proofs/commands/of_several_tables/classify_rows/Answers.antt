@@ -1,8 +1,8 @@
 use Rattle.std.proofs.Common.{inl, inr, refl, subst, Result}
 use Rattle.cn_app.specs.Commands.Classify.{IsHeadReport}
-use Rattle.cn_app.specs.Streams.Writing.{Reports}
-use Rattle.cn_app.specs.declared.fault.AppFault.{AppFault}
-use Rattle.cn_app.specs.declared.report.Outcome.{Outcome}
+use Rattle.cn_io.specs.Streams.Writing.{Reports}
+use Rattle.cn_io.specs.declared.fault.AppFault.{AppFault}
+use Rattle.cn_io.specs.declared.report.Outcome.{Outcome}
 use Rattle.cn_app.proofs.CommandLemmas.Reports.{reported}
 use Rattle.cn_app.proofs.CommandLemmas.SeveralTables.{writable_after_line}
 use Rattle.cn_app.proofs.commands.of_several_tables.classify_rows.Goals as goal

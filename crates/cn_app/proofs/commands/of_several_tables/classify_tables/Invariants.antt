@@ -1,5 +1,5 @@
 use Rattle.std.proofs.Common.{◌≡◌, take, drop}
-use Rattle.cn_app.specs.Streams.Writing.{IsWritable}
+use Rattle.cn_io.specs.Streams.Writing.{IsWritable}
 use Rattle.cn_app.proofs.CommandLemmas.SeveralTables.{Leads}
 use Rattle.cn_app.proofs.commands.of_several_tables.classify_tables.Given as goal
 

@@ -2,7 +2,7 @@ use Rattle.std.proofs.Common.{◌∙◌, ap, string_bytes}
 use Rattle.cn_app.proofs.reports.explain.explain_report.Goals as goal
 
 pub text_of-requires : goal.text_of-requires
-text_of-requires c = c.in_ok-explanation.ensures.explained.right
+text_of-requires c = c.in_ok-explanation.ensures.explained.known
 
 pub returns : goal.returns
 returns c = (

@@ -2,11 +2,11 @@ use Rattle.std.proofs.Common.{◌≡◌, ◌∙◌, inl, ℕ, List, Vec, Global,
 use Rattle.std.proofs.lemmas.List.{length-map}
 use Rattle.std.proofs.lemmas.Result.{err_from_is_err_and}
 use Rattle.cn_log.specs.Opening.{Opening}
-use Rattle.cn_app.specs.Arguments.Calls.{calls_fit}
+use Rattle.cn_io.specs.Arguments.Calls.{calls_fit}
 use Rattle.cn_app.specs.Commands.Serve.{outcome_of_calls}
-use Rattle.cn_app.specs.Outcomes.{cut_if}
+use Rattle.cn_io.specs.Outcomes.{cut_if}
 use Rattle.cn_app.specs.Lines.Threads.{service_text}
-use Rattle.cn_app.proofs.ArgumentLemmas.Calls.{calls_of_operations}
+use Rattle.cn_io.proofs.ArgumentLemmas.Calls.{calls_of_operations}
 use Rattle.cn_app.proofs.LineLemmas.Threads.{each_has_responses, each_served}
 use Rattle.cn_app.proofs.reports.serve.serve_report.Goals as goal
 

@@ -2,7 +2,7 @@ use Rattle.std.proofs.Common.{◌∙◌, ap, string_bytes}
 use Rattle.cn_app.proofs.reports.why.reasons_report.Goals as goal
 
 pub text_of-requires : goal.text_of-requires
-text_of-requires g c = c.in_ok-explanation.ensures.told.explains.right
+text_of-requires g c = c.in_ok-explanation.ensures.told.explains.known
 
 pub returns : goal.returns
 returns g c = (

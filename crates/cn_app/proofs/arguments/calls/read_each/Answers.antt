@@ -1,6 +1,0 @@
-use Rattle.cn_table.proofs.Lists.{front_first}
-use Rattle.cn_app.specs.Arguments.Calls.{process_calls}
-use Rattle.cn_app.proofs.arguments.calls.read_each.Goals as goal
-
-pub loop-piece-init : goal.loop-piece-init
-loop-piece-init c = rw c.new-calls.ensures.items (front_first process_calls (λ piece. piece.now) c.args.pieces.now)

@@ -1,5 +1,0 @@
-use Rattle.std.proofs.Common.{inr, sym}
-use Rattle.cn_app.proofs.streams.output.Output.report.Goals as goal
-
-pub returns-in-Ok : goal.returns-in-Ok
-returns-in-Ok g c = inr (c.in-Ok.report, sym c.in-Ok.is, c.write.ensures)

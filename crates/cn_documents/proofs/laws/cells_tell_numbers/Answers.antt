@@ -1,5 +1,0 @@
-use Rattle.cn_documents.proofs.CellLemmas.{pair_cell, single_cell}
-use Rattle.cn_documents.proofs.laws.cells_tell_numbers.Goals as goal
-
-pub returns : goal.returns
-returns c = record { alone = single_cell; pairs = pair_cell }

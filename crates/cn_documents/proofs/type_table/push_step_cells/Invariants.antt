@@ -1,8 +1,0 @@
-use Rattle.std.proofs.Common.{◌≡◌, ◌++◌, flat_map, string_bytes}
-use Rattle.std.specs.List.{range_with_len}
-use Rattle.cn_documents.specs.TypeTable.{step_cell}
-use Rattle.cn_documents.proofs.type_table.push_step_cells.Given as goal
-
--- the cells so far
-abbrev pub invariant-loop-state : goal.invariant-loop-state
-invariant-loop-state l = string_bytes l.text ≡ string_bytes l.initial.text ++ flat_map (step_cell l.table l.operation.0) (range_with_len 0 l.state)

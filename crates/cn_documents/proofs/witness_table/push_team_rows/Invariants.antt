@@ -1,8 +1,0 @@
-use Rattle.std.proofs.Common.{◌≡◌, ◌++◌, flat_map, string_bytes}
-use Rattle.std.specs.List.{range_with_len}
-use Rattle.cn_documents.specs.WitnessTable.{team_row}
-use Rattle.cn_documents.proofs.witness_table.push_team_rows.Given as goal
-
--- the rows so far
-abbrev pub invariant-loop-operation : goal.invariant-loop-operation
-invariant-loop-operation l = string_bytes l.text ≡ string_bytes l.initial.text ++ flat_map (team_row l.table l.choice l.fn.team) (range_with_len 0 l.operation)

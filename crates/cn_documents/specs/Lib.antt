@@ -1,9 +1,0 @@
-pub mod Rows
-pub mod Triangle
-pub mod NumbersTold
-pub mod Sentences
-pub mod TypeTable
-pub mod WitnessTable
-pub mod LastingTable
-pub mod Documents
-pub mod Explanation

@@ -1,7 +1,0 @@
-use Rattle.std.proofs.Common.{◌≡◌, ◌++◌, drop, string_bytes}
-use Rattle.cn_forms.specs.Explained.{ways}
-use Rattle.cn_forms.proofs.explained.ways.push_ways.Given as goal
-
--- the ways so far, and the others
-abbrev pub invariant-loop-place : goal.invariant-loop-place
-invariant-loop-place l = string_bytes l.text ++ ways l.table l.place (drop l.place l.entries) ≡ string_bytes l.initial.text ++ ways l.table 0 l.entries

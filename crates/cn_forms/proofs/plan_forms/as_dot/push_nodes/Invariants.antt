@@ -1,8 +1,0 @@
-use Rattle.std.proofs.Common.{◌≡◌, ◌++◌, flat_map, string_bytes}
-use Rattle.std.specs.List.{range_with_len}
-use Rattle.cn_forms.specs.Dot.{node_dot}
-use Rattle.cn_forms.proofs.plan_forms.as_dot.push_nodes.Given as goal
-
--- the nodes so far
-abbrev pub invariant-loop-node : goal.invariant-loop-node
-invariant-loop-node l = string_bytes l.text ≡ string_bytes l.initial.text ++ flat_map node_dot (range_with_len 0 l.node)

@@ -1,8 +1,0 @@
-use Rattle.std.proofs.Common.{◌≡◌, ◌++◌, flat_map, string_bytes}
-use Rattle.std.specs.List.{range_with_len}
-use Rattle.cn_forms.specs.Promela.{row_promela}
-use Rattle.cn_forms.proofs.plan_forms.as_promela.push_rows.Given as goal
-
--- the states so far
-abbrev pub invariant-loop-state : goal.invariant-loop-state
-invariant-loop-state l = string_bytes l.text ≡ string_bytes l.initial.text ++ flat_map (row_promela l.plan l.here) (range_with_len 0 l.state)

@@ -1,7 +1,0 @@
-use Rattle.std.proofs.Common.{rules}
-use Rattle.cn_forms.specs.Reasons.{single_words}
-use Rattle.cn_forms.proofs.reasons.push_single_words.Goals as goal
-
-pub returns : goal.returns
-unfolding single_words
-returns c = rw c.operation_name-single.ensures (search rules)

@@ -1,0 +1,3 @@
+pub mod AcceptedWitnesses
+pub mod ArgumentLemmas
+pub mod StreamLemmas

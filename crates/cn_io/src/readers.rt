@@ -1,0 +1,12 @@
+//! The readers of commands, one for each shape of input: a table; a table and a checked
+//! certificate; these and an object, for the opening of a log.
+
+mod accepted;
+mod checked;
+mod opening;
+mod table;
+
+pub use accepted::check_certificate;
+pub use checked::{Checked, read_checked};
+pub use opening::{OpeningArguments, read_opening};
+pub use table::{read_certificate, read_object, read_table};

@@ -1,6 +1,0 @@
-use Rattle.cn_json.proofs.Pieces.{piece}
-use Rattle.cn_json.proofs.collisions.write_named_step.Goals as goal
-
-pub returns : goal.returns
-returns c = rw (c.operation_name.ensures, ← c.from.ensures, c.response_name.ensures, c.state_name.ensures)
-    (piece c.in_ok-begin_object.ensures (piece c.in_ok-text_at.ensures (piece c.in_ok-number_at.ensures (piece c.in_ok-text_at-2.ensures (piece c.in_ok-text_at-3.ensures c.end_object.ensures)))))

@@ -1,9 +1,0 @@
-use Rattle.cn_json.proofs.Pieces.{piece}
-use Rattle.cn_json.proofs.lives.write_empty.Goals as goal
-
-pub returns : goal.returns
-returns c = rw (← c.from.ensures, ← c.from-2.ensures, ← c.name.ensures)
-    (piece c.in_ok-begin_object.ensures (piece c.in_ok-text_at.ensures
-    (piece c.in_ok-number_at.ensures (piece c.in_ok-number_at-2.ensures
-    (piece c.in_ok-text_at-2.ensures (piece c.in_ok-key.ensures (piece c.in_ok-null.ensures
-    c.end_object.ensures)))))))

@@ -1,8 +1,0 @@
-use Rattle.std.proofs.Common.{◌≡◌, ◌++◌, drop}
-use Rattle.cn_json.specs.Collisions.{pair_data}
-use Rattle.cn_json.specs.Tokens.{list_rest}
-use Rattle.cn_json.proofs.witness.write_each_pair.Given as goal
-
--- the pairs that are left make up the array
-abbrev pub invariant-loop-pair : goal.invariant-loop-pair
-invariant-loop-pair l = l.out ++ list_rest (pair_data l.table) (drop l.pair-index l.pairs) ≡ l.initial.out ++ list_rest (pair_data l.table) l.pairs

@@ -1,5 +1,0 @@
-use Rattle.std.proofs.Common.{rules, append_assoc}
-use Rattle.cn_lines.proofs.decisions.decision_line.Goals as goal
-
-pub returns-in-Some : goal.returns-in-Some
-returns-in-Some c = rw c.in-Some.is (search (rules, append_assoc))

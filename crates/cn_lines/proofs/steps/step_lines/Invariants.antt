@@ -1,6 +1,0 @@
-use Rattle.std.proofs.Common.{◌≡◌, ◌++◌, drop, string_bytes}
-use Rattle.cn_lines.specs.Steps.{step_lines}
-use Rattle.cn_lines.proofs.steps.step_lines.Given as goal
-
-abbrev pub invariant-loop-step : goal.invariant-loop-step
-invariant-loop-step l = string_bytes l.lines ++ step_lines l.table (drop l.step-index l.steps) ≡ step_lines l.table l.steps

@@ -1,4 +1,0 @@
-pub mod Decisions
-pub mod Events
-pub mod Log
-pub mod Steps

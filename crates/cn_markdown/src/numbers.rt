@@ -1,0 +1,75 @@
+//! A Markdown table of types and their numbers.
+ghost use Rattle.std.specs.Prelude.{◌≡◌, ◌++◌, IfOk, OnOk, flat_map, option_map, option_to_list, string_bytes};
+ghost use Rattle.cn_markdown.specs.Numbers.{numbers_head, numbers_row, recoverable_head};
+ghost use Rattle.cn_markdown.specs.Rows.{cell};
+
+use crate::rows::push_cell;
+use cn_table::Table;
+use std::alloc::{AllocError, Global};
+
+/// The head of a table of types and their numbers, and the line below it.
+pub(crate) fn head_of(recoverable: bool) -> &'static str
+    ensures { result.now ≡ numbers_head recoverable }
+{
+    if recoverable {
+        "| Type | Consensus number | Recoverable |\n| --- | ---: | ---: |\n"
+    } else {
+        "| Type | Consensus number |\n| --- | ---: |\n"
+    }
+}
+
+/// The head where the recoverable number stands alone.
+pub(crate) fn recoverable_head() -> &'static str
+    ensures { result.now ≡ recoverable_head }
+{
+    "| Type | Recoverable consensus number |\n| --- | ---: |\n"
+}
+
+/// The head of a Markdown table of types and their numbers, with the line below it: a column for
+/// the type, one for its consensus number, and one for its recoverable number if that is told.
+///
+/// # Errors
+///
+/// `AllocError` if memory runs out.
+pub fn number_head(alloc: Global, recoverable: bool) -> Result<String, AllocError>
+    // promise: texts-of-numbers (numbers_head)
+    // promise: head-by-classify
+    ensures { IfOk result (λ text. string_bytes text ≡ numbers_head recoverable) }
+{
+    String::from_str(alloc, head_of(recoverable))
+}
+
+fn push_recoverable(text: &mut String, recoverable: Option<&str>) -> Result<(), AllocError>
+    ensures { OnOk result (string_bytes text.new ≡ string_bytes text.old
+        ++ flat_map cell (option_to_list (option_map (λ r. r.now) recoverable.entry))) }
+{
+    match recoverable {
+        Some(number) => push_cell(text, number),
+        None => Ok(()),
+    }
+}
+
+/// The row of a type in the table of [`number_head`]: its name, its number, and its recoverable
+/// number if that is told. The numbers are given as words, as `2`, `infinite` or `at least 8`.
+///
+/// # Errors
+///
+/// `AllocError` if memory runs out.
+pub fn number_row(
+    alloc: Global,
+    table: &Table,
+    number: &str,
+    recoverable: Option<&str>,
+) -> Result<String, AllocError>
+    // promise: texts-of-numbers (numbers_row)
+    // promise: forms-by-classify
+    ensures { IfOk result (λ text. string_bytes text
+        ≡ numbers_row table.now.name number.now (option_map (λ r. r.now) recoverable.entry)) }
+{
+    let mut text = String::from_str(alloc, "|")?;
+    push_cell(&mut text, table.name())?;
+    push_cell(&mut text, number)?;
+    push_recoverable(&mut text, recoverable)?;
+    text.push_str("\n")?;
+    Ok(text)
+}

@@ -1,0 +1,14 @@
+pub mod AllOrders
+pub mod Explanation
+pub mod Groups
+pub mod Known
+pub mod Lasting
+pub mod NotRecording
+pub mod Recoverable
+pub mod Refutations
+pub mod Runs
+pub mod Searched
+pub mod Sights
+pub mod States
+pub mod Ways
+pub mod Witnesses

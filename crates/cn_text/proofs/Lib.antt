@@ -1,0 +1,5 @@
+mod Behind
+mod FoldLemmas
+mod Numbered
+mod RowWidths
+mod Widths

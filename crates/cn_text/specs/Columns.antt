@@ -1,0 +1,20 @@
+-- Texts in columns.
+use Rattle.std.specs.Prelude.{ℕ, ◌-◌, max, List, [], ◌∷◌, ◌++◌, length}
+use Rattle.cn_pieces.specs.Pieces.{spaces}
+use Rattle.cn_table.specs.TypeTable.{TypeTable, operation_names}
+use Rattle.cn_text.specs.declared.columns.Named.{Named}
+use Rattle.cn_text.specs.declared.columns.Named.TheVariants.{States, Responses, Operations}
+
+abbrev pub names_of : TypeTable → Named → List (List ℕ)
+names_of t States = t.states
+names_of t Responses = t.responses
+names_of t Operations = operation_names t
+
+-- the length of the longest text
+abbrev pub widest : List (List ℕ) → ℕ
+widest [] = 0
+widest (text ∷ texts) = max (length text) (widest texts)
+
+-- a text, filled up with spaces to a width
+abbrev pub padded : ℕ → List ℕ → List ℕ
+padded width text = text ++ spaces (width - length text)

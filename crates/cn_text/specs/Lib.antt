@@ -1,0 +1,10 @@
+pub mod Columns
+pub mod Diagram
+pub mod Explanation
+pub mod Folded
+pub mod Grid
+pub mod PairLines
+pub mod Reasons
+pub mod Recoverable
+pub mod Views
+pub mod Ways

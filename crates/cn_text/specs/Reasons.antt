@@ -1,0 +1,93 @@
+-- What explanations of both kinds of numbers say: the number and the table, the line of a witness, and
+-- the words around the ways.
+use Rattle.std.specs.Prelude.{ℕ, List, [], ◌++◌, ◌==◌, codes, Bool, false, if◌then◌else◌}
+use Rattle.std.specs.Fmt.{decimal}
+use Rattle.cn_table.specs.Names.{name_at}
+use Rattle.cn_table.specs.TypeTable.{TypeTable}
+use Rattle.cn_table.specs.declared.elements.State.{State}
+use Rattle.cn_search.specs.declared.exact.ConsensusNumber.{ConsensusNumber}
+use Rattle.cn_search.specs.declared.exact.ConsensusNumber.TheVariants.{Finite, Infinite, Between}
+use Rattle.cn_reasons.specs.declared.group.ChoiceGroups.{ChoiceGroups}
+use Rattle.cn_sentences.specs.Groups.{members}
+use Rattle.cn_sentences.specs.States.{states_told}
+use Rattle.cn_text.specs.Folded.{folded}
+use Rattle.cn_text.specs.Grid.{cells_text}
+
+-- ---- the number
+
+-- the name of the type, the kind of number, and the number in words
+unfoldable pub number_line : TypeTable → List ℕ → List ℕ → List ℕ
+number_line t kind words =
+    t.name ++ (codes ": " ++ (kind ++ (codes " " ++ (words
+    ++ (codes " (for processes that can read the whole state)\n" ++ [])))))
+
+unfoldable pub start_text : TypeTable → List ℕ → List ℕ → List ℕ
+start_text t kind words =
+    folded (number_line t kind words) ++ (codes "\n" ++ (cells_text t ++ (codes "\n" ++ [])))
+
+-- ---- why it is so much
+
+abbrev pub is_exactly : ConsensusNumber → ℕ → Bool
+is_exactly (Finite n) m = n == m
+is_exactly Infinite m = false
+is_exactly (Between least most) m = false
+
+-- for how many processes the witness is, where the number is another one
+abbrev pub example_line : ConsensusNumber → ℕ → List ℕ
+example_line number m = if is_exactly number m then []
+    else codes "For " ++ (decimal m ++ (codes " processes, say:\n" ++ []))
+
+unfoldable pub witness_line : TypeTable → ℕ → ChoiceGroups → List ℕ
+witness_line t n c =
+    codes "Why " ++ (decimal n ++ (codes ": from state " ++ (name_at t.states c.start.0
+    ++ (codes ", " ++ (members t (codes " (team A)") c.a.items ++ (codes ", "
+    ++ (members t (codes " (team B)") c.b.items ++ (codes ".\n" ++ []))))))))
+
+-- the states that are left if this was first
+unfoldable pub states_line : TypeTable → List ℕ → List ℕ → List State → List ℕ
+states_line t first when states =
+    codes "  " ++ (first ++ (when ++ (codes ": the state is one of" ++ (states_told t states
+    ++ (codes "\n" ++ [])))))
+
+-- ---- why it is no more
+
+unfoldable pub theorem_line : ℕ → List ℕ
+theorem_line n = codes "No protocol at all does it for "
+    ++ (decimal n ++ (codes ": this is proved (docs/PROVED.md).\n" ++ []))
+
+unfoldable pub no_list : ℕ → List ℕ
+no_list n = codes "Why not " ++ (decimal n ++ (codes ": its ways are not listed here.\n"
+    ++ (theorem_line n ++ [])))
+
+abbrev pub each_number_line : List ℕ
+each_number_line = codes "It is so for each number of processes: this is proved (docs/PROVED.md).\n"
+
+-- the number of ways, in each of which there is something that does not tell
+unfoldable pub ways_words : List ℕ → ℕ → List ℕ
+ways_words untold count =
+    if count == 0 then codes "no way to choose a start state, operations and teams is left.\n"
+    else (if count == 1
+    then codes "1 way to choose a start state, operations and teams; in it " ++ (untold ++ (codes ".\n" ++ []))
+    else decimal count ++ (codes " ways to choose a start state, operations and teams; in each "
+    ++ (untold ++ (codes ".\n" ++ []))))
+
+-- the number of ways that are not told
+unfoldable pub more_line : ℕ → List ℕ
+more_line more = if more == 0 then []
+    else codes "  and " ++ (decimal more ++ (codes " more (--all tells them)\n" ++ []))
+
+-- the ways that a list of this version leaves out
+abbrev pub left_out : ℕ → List ℕ
+left_out version =
+    if version == 1 then []
+    else codes "  Ways in which an operation leaves the start state unchanged cannot work, and are left out.\n"
+
+-- the ways that count as one
+abbrev pub same_ways : List ℕ
+same_ways =
+    codes "  Ways that differ only in the numbers of the processes or the names of the teams count as one.\n"
+
+-- what is left out behind the ways, and that no protocol does it for n processes
+unfoldable pub ways_end : ℕ → ℕ → ℕ → List ℕ
+ways_end more version n =
+    more_line more ++ (same_ways ++ (left_out version ++ (theorem_line n ++ [])))

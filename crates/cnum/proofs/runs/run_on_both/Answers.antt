@@ -1,0 +1,69 @@
+use Rattle.std.proofs.Common.{◌≡◌, ◌∙◌, Some, ap, inr, sym}
+use Rattle.cnum.specs.Runs.{certificate_of}
+use Rattle.cnum.proofs.runs.run_on_both.Goals as goal
+
+pub returns-in-Check : goal.returns-in-Check
+returns-in-Check g c =
+    let given : Some c.in-Check.certificate ≡ Some c.args.source = ap certificate_of (sym c.in-Check.is) ∙ c.requires.command in
+    let same : c.in-Check.certificate ≡ c.args.source = cc in
+    rw c.in-Check.is (
+      c.text_of-certificate.result,
+      rw same c.text_of-certificate.ensures,
+      record {
+        table_after = c.check-end.new.table;
+        certificate_after = c.check-end.new.certificate;
+        read = c.check-end.ensures.read;
+        order = inr tt;
+        reported = rw c.noting_table.ensures c.check-end.ensures.checked;
+      },
+    )
+
+pub returns-in-Explain : goal.returns-in-Explain
+returns-in-Explain g c =
+    let given : Some c.in-Explain.certificate ≡ Some c.args.source = ap certificate_of (sym c.in-Explain.is) ∙ c.requires.command in
+    let same : c.in-Explain.certificate ≡ c.args.source = cc in
+    rw c.in-Explain.is (
+      c.text_of-certificate.result,
+      rw same c.text_of-certificate.ensures,
+      record {
+        table_after = c.explain-end.new.table;
+        certificate_after = c.explain-end.new.certificate;
+        read = c.explain-end.ensures.read;
+        order = inr tt;
+        reported = rw c.noting_table-in-Explain.ensures c.explain-end.ensures.explained;
+      },
+    )
+
+pub returns-in-Show : goal.returns-in-Show
+returns-in-Show g c =
+    let given : Some c.in-Show.certificate ≡ Some c.args.source = ap certificate_of (sym c.in-Show.is) ∙ c.requires.command in
+    let same : c.in-Show.certificate ≡ c.args.source = cc in
+    rw c.in-Show.is (
+      c.text_of-certificate.result,
+      rw same c.text_of-certificate.ensures,
+      record {
+        table_after = c.show-end.new.table;
+        certificate_after = c.show-end.new.certificate;
+        read = c.show-end.ensures.read;
+        order = inr tt;
+        reported = rw c.noting_table-in-Show.ensures c.show-end.ensures.shown;
+      },
+    )
+
+pub returns-in-Agree : goal.returns-in-Agree
+returns-in-Agree g c =
+    let given : Some c.in-Agree.certificate ≡ Some c.args.source = ap certificate_of (sym c.in-Agree.is) ∙ c.requires.command in
+    let same : c.in-Agree.certificate ≡ c.args.source = cc in
+    rw c.in-Agree.is (c.text_of-certificate.result, rw same c.text_of-certificate.ensures, c.agree.ensures)
+
+pub returns-in-Replay : goal.returns-in-Replay
+returns-in-Replay g c =
+    let given : Some c.in-Replay.opening.certificate ≡ Some c.args.source = ap certificate_of (sym c.in-Replay.is) ∙ c.requires.command in
+    let same : c.in-Replay.opening.certificate ≡ c.args.source = cc in
+    rw c.in-Replay.is (c.text_of-certificate.result, rw same c.text_of-certificate.ensures, c.replay.ensures)
+
+pub returns-in-Serve : goal.returns-in-Serve
+returns-in-Serve g c =
+    let given : Some c.in-Serve.opening.certificate ≡ Some c.args.source = ap certificate_of (sym c.in-Serve.is) ∙ c.requires.command in
+    let same : c.in-Serve.opening.certificate ≡ c.args.source = cc in
+    rw c.in-Serve.is (c.text_of-certificate.result, rw same c.text_of-certificate.ensures, c.serve.ensures)

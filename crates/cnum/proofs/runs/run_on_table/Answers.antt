@@ -1,0 +1,43 @@
+use Rattle.cnum.proofs.runs.run_on_table.Goals as goal
+
+pub returns-in-Find : goal.returns-in-Find
+returns-in-Find g c = λ stdin. rw c.in-Find.is (record {
+  after = c.find.new.table;
+  read = c.find.ensures.read;
+  reported = c.find.ensures.found;
+})
+
+pub returns-in-Lint : goal.returns-in-Lint
+returns-in-Lint g c = λ stdin. rw c.in-Lint.is (record {
+  after = c.lint.new.table;
+  read = c.lint.ensures.read;
+  reported = c.lint.ensures.linted;
+})
+
+pub returns-in-Draw : goal.returns-in-Draw
+returns-in-Draw g c = λ stdin. rw c.in-Draw.is (record {
+  after = c.draw.new.table;
+  read = c.draw.ensures.read;
+  reported = c.draw.ensures.drawn;
+})
+
+pub returns-in-Why : goal.returns-in-Why
+returns-in-Why g c = λ stdin. rw c.in-Why.is (record {
+  after = c.why.new.table;
+  read = c.why.ensures.read;
+  reported = c.why.ensures.told;
+})
+
+pub returns-in-WhyRecoverable : goal.returns-in-WhyRecoverable
+returns-in-WhyRecoverable g c = λ stdin. rw c.in-WhyRecoverable.is (record {
+  after = c.why_recoverable.new.table;
+  read = c.why_recoverable.ensures.read;
+  reported = c.why_recoverable.ensures.told;
+})
+
+pub returns-in-Pairs : goal.returns-in-Pairs
+returns-in-Pairs g c = λ stdin. rw c.in-Pairs.is (record {
+  after = c.pairs.new.table;
+  read = c.pairs.ensures.read;
+  reported = c.pairs.ensures.told;
+})
