@@ -9,7 +9,7 @@ _cnum() {
         [[ $previous == --limit ]] && values='2 3 4 5 6 7 8'
         ;;
     classify)
-        options='--limit --recoverable --as -h --help' arguments='FILE...'
+        options='--limit --recoverable --without-read --as -h --help' arguments='FILE...'
         [[ $previous == --limit ]] && values='2 3 4 5 6 7 8'
         [[ $previous == --as ]] && values='text json markdown'
         ;;

@@ -60,6 +60,7 @@ complete -c cnum -n '__cnum_is find' -s h -l help -d 'Print help'
 complete -c cnum -n '__cnum_at find 1' -F
 complete -c cnum -n '__cnum_is classify' -l limit -x -a '2 3 4 5 6 7 8' -d 'The greatest number looked for, from 2 to 8'
 complete -c cnum -n '__cnum_is classify' -l recoverable -d 'Writes the recoverable number of each type too'
+complete -c cnum -n '__cnum_is classify' -l without-read -d 'Also writes the number of each type for objects that are not read'
 complete -c cnum -n '__cnum_is classify' -l as -x -a 'text json markdown' -d 'The form in which the numbers are written'
 complete -c cnum -n '__cnum_is classify' -s h -l help -d 'Print help'
 complete -c cnum -n '__cnum_from classify 1' -F

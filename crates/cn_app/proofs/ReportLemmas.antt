@@ -1,3 +1,4 @@
 -- The reports of the commands.
 pub mod FoundCertificates
 pub mod Numbers
+pub mod Words

@@ -4,9 +4,8 @@ use Rattle.std.proofs.Common.{◌≡◌, ℕ, ◌*◌, ◌<◌, ◌≤◌, inl, 
 use Rattle.std.proofs.Common.{sym, ap, ◌∙◌, subst, arith, Bool, true, false, cond, nat_eq, Some}
 use Rattle.std.proofs.Common.{replicate, true≢false}
 use Rattle.std.proofs.lemmas.Bool.{cases_eq, eq-eqb}
-use Rattle.cn_table.specs.TypeTable.{TypeTable, transition}
+use Rattle.cn_table.specs.TypeTable.{IsClosed, TypeTable, transition}
 use Rattle.cn_consensus.specs.Protocol.{Action, IsActionOf, IsProtocolOf, Protocol}
-use Rattle.cn_consensus.specs.Types.{IsClosed}
 use Rattle.cn_consensus.specs.Protocol.Action.{Decide, ReadRegister, WriteRegister, ApplyOperation}
 use Rattle.cn_consensus.specs.Protocol.Action.{ReadObject}
 use Rattle.cn_consensus.specs.Configuration.{Configuration, put, perform, step, after, decision}

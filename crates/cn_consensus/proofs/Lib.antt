@@ -7,7 +7,6 @@ pub mod InfiniteSchedules
 pub mod Numbers
 pub mod OneObject
 pub mod RegistersAlone
-pub mod Tables
 pub mod Theorem
 pub mod TwoSteps
 pub mod WellFoundedRuns

@@ -1,12 +1,12 @@
 -- Above the number of a type no protocol solves consensus.
 use Rattle.std.proofs.Common.{ℕ, ◌<◌, ◌≤◌, Some, None, arith}
-use Rattle.cn_table.specs.TypeTable.{TypeTable}
+use Rattle.cn_table.specs.TypeTable.{IsClosed, TypeTable}
 use Rattle.cn_choice.specs.Discerning.{IsDiscerning, IsNumberUpTo}
 use Rattle.cn_choice.proofs.NumberLemmas.FewerProcesses.{discerning_below}
 use Rattle.cn_choice.proofs.NumberLemmas.GreatestNumbers as greatest
 use Rattle.cn_consensus.specs.Consensus.{IsConsensusProtocol}
 use Rattle.cn_consensus.specs.Protocol.{IsProtocolOf, Protocol}
-use Rattle.cn_consensus.specs.Types.{IsClosed, all_of}
+use Rattle.cn_consensus.specs.Types.{all_of}
 use Rattle.cn_consensus.proofs.Theorem.{consensus_discerns}
 
 pub above : {L V : Type 0} (t : TypeTable) (limit n m : ℕ) (P : Protocol L V) → IsClosed t

@@ -1,12 +1,12 @@
 -- Registers alone do not solve consensus: a type that never changes is not discerning.
 use Rattle.std.proofs.Common.{ℕ, ◌<◌, ◌≤◌, length, get_or, arith}
-use Rattle.cn_table.specs.TypeTable.{TypeTable}
+use Rattle.cn_table.specs.TypeTable.{IsClosed, TypeTable}
 use Rattle.cn_choice.specs.Discerning.{IsDiscerning, IsWitness}
 use Rattle.cn_choice.specs.Live.{IsLive}
 use Rattle.cn_choice.specs.RawChoices.{IsRawChoice, RawChoice}
 use Rattle.cn_consensus.specs.Consensus.{IsConsensusProtocol}
 use Rattle.cn_consensus.specs.Protocol.{IsProtocolOf, Protocol}
-use Rattle.cn_consensus.specs.Types.{IsClosed, NeverChanges, all_of}
+use Rattle.cn_consensus.specs.Types.{NeverChanges, all_of}
 use Rattle.cn_consensus.proofs.Theorem.{consensus_discerns}
 
 -- what a law of `cn_choice` says

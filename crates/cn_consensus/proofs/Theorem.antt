@@ -1,11 +1,11 @@
 -- A type with a consensus protocol for n processes is n-discerning.
 use Rattle.std.proofs.Common.{ℕ, ◌≤◌}
-use Rattle.cn_table.specs.TypeTable.{TypeTable}
+use Rattle.cn_table.specs.TypeTable.{IsClosed, TypeTable}
 use Rattle.cn_choice.specs.Discerning.{IsDiscerning}
 use Rattle.cn_consensus.specs.Configuration.{after, initial}
 use Rattle.cn_consensus.specs.Consensus.{IsConsensusProtocol}
 use Rattle.cn_consensus.specs.Protocol.{IsProtocolOf, Protocol}
-use Rattle.cn_consensus.specs.Types.{IsClosed, all_of}
+use Rattle.cn_consensus.specs.Types.{all_of}
 use Rattle.cn_consensus.proofs.FirstConfiguration.{critical, two_inputs}
 use Rattle.cn_consensus.proofs.Witnesses.{discerning}
 

@@ -5,11 +5,6 @@
 use Rattle.std.specs.Prelude.{◌≡◌, ℕ, ◌<◌, length}
 use Rattle.cn_table.specs.TypeTable.{TypeTable, transition}
 
--- a closed type: no operation leads out of its states
-abbrev pub IsClosed : TypeTable → Type 0
-IsClosed t = (operation state : ℕ) → operation < length t.operations → state < length t.states
-    → (transition t operation state).1 < length t.states
-
 -- a type whose operations never change the state: its objects are of no use beside registers
 abbrev pub NeverChanges : TypeTable → Type 0
 NeverChanges t = (operation state : ℕ) → operation < length t.operations → state < length t.states

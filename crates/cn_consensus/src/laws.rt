@@ -8,20 +8,14 @@
 //!
 //! Everywhere `L` are the local states of the processes, and `V` is what registers hold.
 ghost use Rattle.std.specs.Prelude.{◌≤◌, ◌<◌, ◌↔◌, ℕ, None, Some};
-ghost use Rattle.cn_table.specs.TypeTable.{IsTypeTable, TypeTable};
+ghost use Rattle.cn_table.specs.TypeTable.{IsClosed, IsTypeTable, TypeTable};
 ghost use Rattle.cn_choice.specs.Discerning.{IsDiscerning, IsNumberUpTo};
 ghost use Rattle.cn_consensus.specs.Consensus.{IsBoundedWaitFree, IsConsensusProtocol};
 ghost use Rattle.cn_consensus.specs.Protocol.{IsProtocolOf, Protocol};
-ghost use Rattle.cn_consensus.specs.Types.{IsClosed, NeverChanges, all_of};
+ghost use Rattle.cn_consensus.specs.Types.{NeverChanges, all_of};
 ghost use Rattle.cn_consensus.specs.WaitFreedom.{EveryRunEnds, ExcludedMiddle, IsWaitFree};
 
 use cn_choice::laws::witnesses_are_live;
-
-/// Every table is closed: no operation leads out of its states.
-pub fn tables_are_closed()
-    // promise: closed-types
-    ensures { (t : TypeTable) → IsTypeTable t → IsClosed t }
-{}
 
 /// Consensus needs a witness: where some protocol solves wait-free consensus for n processes, 2 or
 /// more, from registers and readable objects of the type, the type is n-discerning (Ruppert, 2000).

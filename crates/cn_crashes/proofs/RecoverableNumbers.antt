@@ -2,11 +2,11 @@
 use Rattle.std.proofs.Common.{◌≡◌, ℕ, ◌<◌, ◌≤◌, length, arith, Option, Some, None, inl}
 use Rattle.std.proofs.Common.{inr, Bool}
 use Rattle.std.proofs.lemmas.Bool.{cases_order}
-use Rattle.cn_table.specs.TypeTable.{TypeTable}
+use Rattle.cn_table.specs.TypeTable.{IsClosed, TypeTable}
 use Rattle.cn_choice.specs.GreatestNumbers.{PassesDown}
 use Rattle.cn_choice.proofs.NumberLemmas.GreatestNumbers as greatest
 use Rattle.cn_consensus.specs.Protocol.{IsProtocolOf, Protocol}
-use Rattle.cn_consensus.specs.Types.{IsClosed, all_of}
+use Rattle.cn_consensus.specs.Types.{all_of}
 use Rattle.cn_recover.specs.Recording.{IsRecording, IsRecoverableNumberUpTo}
 use Rattle.cn_crashes.specs.RecoverableConsensus.{IsRecoverableConsensusProtocol}
 use Rattle.cn_crashes.specs.RecoverableConsensusNumber.{IsRecoverableConsensusNumber}

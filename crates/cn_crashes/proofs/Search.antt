@@ -4,9 +4,9 @@ use Rattle.std.proofs.Common.{◌≡◌, ◌≢◌, ℕ, ◌<◌, ◌≤◌, ◌
 use Rattle.std.proofs.Common.{sym, ap, ◌∙◌, subst, arith, Bool, true, false, cond, nat_eq, Option}
 use Rattle.std.proofs.Common.{Some, None, replicate, true≢false}
 use Rattle.std.proofs.lemmas.Bool.{cases_Bool, cases_eq, cases_lt}
-use Rattle.cn_table.specs.TypeTable.{TypeTable}
+use Rattle.cn_table.specs.TypeTable.{IsClosed, TypeTable}
 use Rattle.cn_consensus.specs.Protocol.{IsProtocolOf, Protocol}
-use Rattle.cn_consensus.specs.Types.{IsClosed, all_of}
+use Rattle.cn_consensus.specs.Types.{all_of}
 use Rattle.cn_consensus.specs.Configuration.{Configuration, after, decision, initial, step}
 use Rattle.cn_consensus.proofs.Alike.{Alike, alike_alone, alike_decided, put-other}
 use Rattle.cn_consensus.proofs.FirstConfiguration.{states_performed}

@@ -7,11 +7,11 @@
 //! Everywhere `L` are the local states of any protocol, and `V` is what its registers hold. The
 //! number of processes may be greater than any limit.
 ghost use Rattle.std.specs.Prelude.{◌≡◌, ◌≤◌, ◌<◌, ◌-◌, ◌↔◌, ℕ, Bool, length, Option, None, Some};
-ghost use Rattle.cn_table.specs.TypeTable.{TypeTable};
+ghost use Rattle.cn_table.specs.TypeTable.{IsClosed, TypeTable};
 ghost use Rattle.cn_choice.specs.Discerning.{IsDiscerning};
 ghost use Rattle.cn_consensus.specs.Consensus.{IsConsensusProtocol};
 ghost use Rattle.cn_consensus.specs.Protocol.{IsProtocolOf, Protocol};
-ghost use Rattle.cn_consensus.specs.Types.{IsClosed, all_of};
+ghost use Rattle.cn_consensus.specs.Types.{all_of};
 ghost use Rattle.cn_recover.specs.Recording.{IsRecording, IsRecoverableNumberUpTo};
 ghost use Rattle.cn_crashes.specs.InfiniteExecutions.{DecidesInInfiniteExecutions, ExcludedMiddle};
 ghost use Rattle.cn_crashes.specs.RecoverableConsensus.{HasRecoverableAgreement};

@@ -35,7 +35,7 @@ ghost use Rattle.cn_headline.specs.Headline.{Headline};
 use cn_agree::laws::plans_reach_consensus;
 use cn_app::Source;
 use cn_choice::laws::{DiscerningType, greatest_is_unique, live_list};
-use cn_consensus::laws::{consensus_needs_a_witness, tables_are_closed};
+use cn_consensus::laws::consensus_needs_a_witness;
 use cn_crashes::laws::{
     number_is_the_recoverable_consensus_number, recording_is_enough,
     recoverable_consensus_needs_recording,
@@ -46,7 +46,7 @@ use cn_log::laws::event_lists_are_linearized;
 use cn_proto::laws::{plan_protocols_are_sound, unique_plan};
 use cn_recover::laws::RecordingType;
 use cn_solvable::laws::{number_is_the_consensus_number, witness_is_enough};
-use cn_table::laws::spelled_tables;
+use cn_table::laws::{spelled_tables, tables_are_closed};
 use std::io::Read;
 
 /// `find` writes one text for a table and a limit.
@@ -71,10 +71,11 @@ pub fn why_explains_what_is_found()
 pub fn lines_tell_classifications()
     // promise: line-by-classify (IsClassified: AreNumberWords, number_text, number_words)
     ensures number { (t : TypeTable) (limit : Option ℕ) (c : Classification)
-        → IsClassificationOf t limit false c → IsClassified t limit (classification_line c) }
+        → IsClassificationOf t limit false false c
+        → IsClassified t limit (classification_line c) }
     // promise: recoverable-line-by-classify (IsRecoverablyClassified)
     ensures both { (t : TypeTable) (limit : Option ℕ) (c : Classification)
-        → IsClassificationOf t limit true c
+        → IsClassificationOf t limit true false c
         → IsRecoverablyClassified t limit (classification_line c) }
 {}
 

@@ -6,6 +6,8 @@ use Rattle.cn_search.specs.declared.exact.ConsensusNumber.TheVariants.{Finite, I
 use Rattle.cn_json.specs.Values.{number_data, text_data}
 use Rattle.cn_reasons.specs.declared.numbers.TypeNumber.{TypeNumber}
 use Rattle.cn_reasons.specs.declared.numbers.TypeNumber.TheVariants.{Exact, UpTo}
+use Rattle.cn_unread_number.specs.declared.bounds.NumberBounds.{NumberBounds}
+use Rattle.cn_unread_number.specs.declared.bounds.NumberBounds.TheVariants as bounds
 use Rattle.cn_json.specs.declared.numbers.Classification.{Classification}
 
 -- the ends of a range
@@ -32,12 +34,27 @@ abbrev pub type_number_data : TypeNumber → Data
 type_number_data (Exact number) = exact_data number
 type_number_data (UpTo limit number) = limited_data limit number
 
--- the recoverable number, if it is told
-abbrev pub recoverable_members : Option TypeNumber → Members
-recoverable_members None = no_members
-recoverable_members (Some n) = member (codes "recoverable") (type_number_data n) no_members
+-- what is known of a number without reads
+abbrev pub bounds_data : NumberBounds → Data
+bounds_data (bounds.Exactly n) = number_data n
+bounds_data bounds.Infinite = text_data (codes "infinite")
+bounds_data (bounds.Between least most) =
+    object (member (codes "at_least") (number_data least)
+    (member (codes "at_most") (number_data most) no_members))
+bounds_data (bounds.AtLeast least) = at_least_data least
+
+-- the number without reads, if it is told
+abbrev pub without_read_members : Option NumberBounds → Members
+without_read_members None = no_members
+without_read_members (Some known) = member (codes "without_read") (bounds_data known) no_members
+
+-- the recoverable number, if it is told, and the members behind it
+abbrev pub recoverable_members : Option TypeNumber → Members → Members
+recoverable_members None others = others
+recoverable_members (Some n) others = member (codes "recoverable") (type_number_data n) others
 
 unfoldable pub classification_data : Classification → Data
 classification_data c =
     object (member (codes "name") (text_data c.name.now)
-    (member (codes "number") (type_number_data c.number) (recoverable_members c.recoverable)))
+    (member (codes "number") (type_number_data c.number)
+    (recoverable_members c.recoverable (without_read_members c.without_read))))

@@ -23,7 +23,7 @@ use Rattle.cn_markdown.specs.Witness.{witness_markdown}
 
 -- a table with the type and its number, and the table of the type
 unfoldable pub start : List ℕ → TypeTable → List ℕ → List ℕ
-start head t words = head ++ (numbers_row t.name words None ++ (codes "\n"
+start head t words = head ++ (numbers_row t.name words None None ++ (codes "\n"
     ++ (type_markdown t ++ (codes "\n" ++ []))))
 
 -- ---- why it is no more
@@ -96,5 +96,5 @@ reason e (Some l) = lasting_table e.table l
 -- more
 unfoldable pub explanation_markdown : Explanation → List ℕ
 explanation_markdown e =
-    start (numbers_head false) e.table (number_words [] e.number)
+    start (numbers_head false false) e.table (number_words [] e.number)
     ++ (witness_markdown e.table e.witness ++ (codes "\n" ++ (reason e e.lasting ++ [])))

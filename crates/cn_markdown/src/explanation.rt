@@ -30,7 +30,7 @@ pub(crate) fn push_start(
     ensures { OnOk result (string_bytes text.new
         ≡ string_bytes text.old ++ start head.now table.now words.now) }
 {
-    let row = number_row(alloc, table, words, None)?;
+    let row = number_row(alloc, table, words, None, None)?;
     push_pieces(text, &[head, row.as_str(), "\n"])?;
     push_type_table(text, table)?;
     text.push_str("\n")
@@ -43,14 +43,14 @@ fn push_number(
     explanation: &Explanation,
 ) -> Result<(), AllocError>
     ensures { OnOk result (string_bytes text.new ≡ string_bytes text.old
-        ++ start (numbers_head false) explanation.now.table
+        ++ start (numbers_head false false) explanation.now.table
         (number_words [] explanation.now.number)) }
 {
     let words = number_words(alloc, "", explanation.number)?;
     push_start(
         alloc,
         text,
-        head_of(false),
+        head_of(false, false),
         &explanation.table,
         words.as_str(),
     )

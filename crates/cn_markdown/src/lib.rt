@@ -6,8 +6,8 @@
 //! the values that it shows.
 //!
 //! ```text
-//! print!(rt; "{}", number_head(alloc, false)?)?;
-//! print!(rt; "{}", number_row(alloc, &table, "2", None)?)?;
+//! print!(rt; "{}", number_head(alloc, false, false)?)?;
+//! print!(rt; "{}", number_row(alloc, &table, "2", None, None)?)?;
 //! print!(rt; "{}", pairs_table(alloc, &table, &pairs)?)?;
 //! ```
 #![tactic(auto)]

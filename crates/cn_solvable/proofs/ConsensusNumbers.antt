@@ -2,12 +2,12 @@
 use Rattle.std.proofs.Common.{◌≡◌, ℕ, ◌<◌, ◌≤◌, ◌↔◌, inl, inr, length, Bool, Option, Some, None}
 use Rattle.std.proofs.Common.{arith}
 use Rattle.std.proofs.lemmas.Bool.{cases_eq, cases_lt}
-use Rattle.cn_table.specs.TypeTable.{TypeTable}
+use Rattle.cn_table.specs.TypeTable.{IsClosed, TypeTable}
 use Rattle.cn_choice.specs.Discerning.{IsDiscerning, IsNumberUpTo}
 use Rattle.cn_agree.specs.declared.local.Local.{Local}
 use Rattle.cn_consensus.specs.Consensus.{IsConsensusProtocol}
 use Rattle.cn_consensus.specs.Protocol.{IsProtocolOf, Protocol}
-use Rattle.cn_consensus.specs.Types.{IsClosed, all_of}
+use Rattle.cn_consensus.specs.Types.{all_of}
 use Rattle.cn_solvable.specs.Solving.{IsConsensusNumber, SolvesConsensus}
 use Rattle.cn_solvable.proofs.OneProcess.{one_alone}
 

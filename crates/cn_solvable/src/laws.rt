@@ -3,7 +3,7 @@
 //!
 //! Everywhere `L` are the local states of any protocol, and `V` is what its registers hold.
 ghost use Rattle.std.specs.Prelude.{◌≡◌, ◌≤◌, ◌<◌, ◌↔◌, ℕ, Bool, List, length, Option, None, Some};
-ghost use Rattle.cn_table.specs.TypeTable.{TypeTable};
+ghost use Rattle.cn_table.specs.TypeTable.{IsClosed, TypeTable};
 ghost use Rattle.cn_choice.specs.Discerning.{IsDiscerning, IsNumberUpTo};
 ghost use Rattle.cn_proto.specs.Plan.{IsPlan, Plan, nodes_of, processes_of, protocol_of};
 ghost use Rattle.cn_agree.specs.Schedules.{decisions_after};
@@ -11,7 +11,7 @@ ghost use Rattle.cn_agree.specs.declared.local.Local.{Local as LocalOf};
 ghost use Rattle.cn_consensus.specs.Configuration.{after, decision, initial};
 ghost use Rattle.cn_consensus.specs.Consensus.{IsConsensusProtocol, IsSchedule};
 ghost use Rattle.cn_consensus.specs.Protocol.{IsProtocolOf, Protocol};
-ghost use Rattle.cn_consensus.specs.Types.{IsClosed, all_of};
+ghost use Rattle.cn_consensus.specs.Types.{all_of};
 ghost use Rattle.cn_solvable.specs.RoundProtocol.{Mirrors, listed, plan_protocol, world_after};
 ghost use Rattle.cn_solvable.specs.Solving.{IsConsensusNumber, SolvesConsensus};
 

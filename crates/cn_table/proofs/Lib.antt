@@ -9,3 +9,6 @@ pub mod Lines
 pub mod Faultless
 pub mod Spelling
 pub mod Restrictions
+pub mod PickedNames
+pub mod Classes
+pub mod Closed

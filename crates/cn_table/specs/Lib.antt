@@ -1,4 +1,5 @@
 pub mod Texts
+pub mod FewerStates
 pub mod Names
 pub mod TypeTable
 pub mod Run

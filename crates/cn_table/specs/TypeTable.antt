@@ -28,6 +28,11 @@ abbrev pub transition : TypeTable → ℕ → ℕ → ℕ × ℕ
 transition t operation state = let row = slice_index_or t.operations operation no_row in
     (slice_index row.response state, slice_index row.next state)
 
+-- a closed type: no operation leads out of its states
+abbrev pub IsClosed : TypeTable → Type 0
+IsClosed t = (operation state : ℕ) → operation < length t.operations → state < length t.states
+    → (transition t operation state).1 < length t.states
+
 abbrev pub operation_names : TypeTable → List (List ℕ)
 operation_names t = map (λ row. row.name) t.operations
 

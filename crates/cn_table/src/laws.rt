@@ -1,7 +1,7 @@
 //! Laws of tables. A law is a function that does nothing: its contract is the law.
 ghost use Rattle.std.specs.Prelude.{◌≡◌, ◌≤◌, ℕ, List, Ok, length};
 ghost use Rattle.cn_table.specs.Faults.{reading};
-ghost use Rattle.cn_table.specs.TypeTable.{IsTypeTable, TypeTable};
+ghost use Rattle.cn_table.specs.TypeTable.{IsClosed, IsTypeTable, TypeTable};
 ghost use Rattle.cn_table.specs.declared.limits.TheConstants.{MOST_OPERATIONS, MOST_RESPONSES, MOST_STATES};
 
 use crate::Table;
@@ -29,3 +29,9 @@ pub fn tables_are_valid(table: &Table)
 {
     let _ = &table.states;
 }
+
+/// Every type table is closed: no operation leads out of its states.
+pub fn tables_are_closed()
+    // promise: closed-types (IsClosed)
+    ensures { (t : TypeTable) → IsTypeTable t → IsClosed t }
+{}

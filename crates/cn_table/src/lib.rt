@@ -23,6 +23,7 @@ pub mod draft;
 mod draft_faults;
 mod elements;
 mod fault;
+mod fewer_states;
 pub mod keys;
 pub mod laws;
 mod limits;
@@ -35,6 +36,7 @@ mod table;
 
 pub use elements::{Operation, Response, State};
 pub use fault::TableFault;
+pub use fewer_states::classes_make_a_table;
 pub use limits::{LONGEST_NAME, MOST_OPERATIONS, MOST_RESPONSES, MOST_STATES};
 pub use names::is_name;
 pub use read::read_table;

@@ -196,7 +196,7 @@ impl Table {
     }
 }
 
-fn copy_texts(alloc: Global, texts: &[String]) -> Result<Vec<String>, AllocError>
+pub(crate) fn copy_texts(alloc: Global, texts: &[String]) -> Result<Vec<String>, AllocError>
     ensures { IfOk result (λ copy. texts_view copy ≡ map (λ s. string_bytes s) texts.now) }
 {
     let mut copy = Vec::new(alloc);

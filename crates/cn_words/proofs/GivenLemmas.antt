@@ -19,7 +19,7 @@ use Rattle.cn_words.specs.declared.commands.Invocation.TheVariants.{Classify, Li
 use Rattle.cn_words.specs.declared.commands.OpeningWords.{OpeningWords}
 use Rattle.cn_words.specs.declared.commands.TextSource.{TextSource}
 use Rattle.cn_words.specs.declared.lives.LivesWords.{LivesWords}
-use Rattle.cn_words.specs.GivenCommands.{Finds, HasAnswerForm, HasCertificate, HasDocumentForm, HasFlag, HasForm, HasLimit, HasLives, HasLivesTable, HasNumber, HasOpening, HasOptionalNumber, HasTables, HasWord, IsByte, IsInvocation, IsNamed, is_flag_set, is_of_lives, path_in, path_of}
+use Rattle.cn_words.specs.GivenCommands.{Finds, HasAnswerForm, HasCertificate, HasDocumentForm, HasFlag, HasForm, HasLimit, HasLives, HasLivesTable, HasNumber, HasOpening, HasOptionalNumber, HasTables, HasWord, IsByte, IsInvocation, IsNamed, is_flag_set, is_limit_excluded, is_of_lives, path_in, path_of}
 
 -- two views of an optional value make their pair
 pub pair_of : {A B C : Type 0} (f : A → B) (g : A → C) (o : Option A) (q : Option (B × C)) → option_map f o ≡ option_map (λ p. p.0) q
@@ -131,15 +131,16 @@ wants name rows (Serve opening calls form) h = subst (λ n. Wants n rows) (sym h
 
 -- what `classify` requires of its words
 pub classify_wants : (rows : List Row) (i : Invocation) → IsInvocation (codes "classify") rows i
-    → ((n : Option ℕ) × HasLimit rows n) × ((form : DocumentForm) × HasDocumentForm rows form) × ((ts : Vec TextSource Global) × HasTables rows ts.items)
-classify_wants rows (Classify limit recoverable form tables) h = ((limit, h.1), (form, h.3), (tables, h.4))
+    → (is_limit_excluded rows ≡ false) × ((n : Option ℕ) × HasLimit rows n) × ((form : DocumentForm) × HasDocumentForm rows form)
+    × ((ts : Vec TextSource Global) × HasTables rows ts.items)
+classify_wants rows (Classify limit recoverable without_read form tables) h = (h.1, (limit, h.2), (form, h.5), (tables, h.6))
 classify_wants rows (OfTable table command) h = absurd (wants (codes "classify") rows command h.arguments)
 classify_wants rows (Lives table words) h = absurd (subst (λ n. MatchBool (bytes_eq n (codes "classify")) (Unit {0}) ⊥) h.0 tt)
 
 -- what `agree --recoverable` requires of its words
 pub lives_wants : (rows : List Row) (i : Invocation) → is_flag_set (codes "recoverable") rows ≡ true → IsInvocation (codes "agree") rows i
     → ((t : TextSource) × HasLivesTable rows t) × ((w : LivesWords) × HasLives rows w)
-lives_wants rows (Classify limit recoverable form tables) flag h = absurd (subst (λ n. MatchBool (bytes_eq n (codes "agree")) (Unit {0}) ⊥) h.0 tt)
+lives_wants rows (Classify limit recoverable without_read form tables) flag h = absurd (subst (λ n. MatchBool (bytes_eq n (codes "agree")) (Unit {0}) ⊥) h.0 tt)
 lives_wants rows (OfTable table command) flag h =
     absurd (go (is_flag_set (codes "recoverable") rows) _ flag (wants (codes "agree") rows command h.arguments).4)
   where

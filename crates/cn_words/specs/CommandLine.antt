@@ -120,8 +120,8 @@ find_words = command_with (codes "find") (limit_option ∷ table_option ∷ file
 
 abbrev pub classify_words : ValueParser → Shape
 classify_words forms = command_with (codes "classify")
-    (limit_option ∷ flag (codes "recoverable") ∷ form_option forms ∷ required_words (codes "FILE")
-    ∷ [])
+    (limit_option ∷ flag (codes "recoverable") ∷ flag (codes "without-read") ∷ form_option forms
+    ∷ required_words (codes "FILE") ∷ [])
 
 abbrev pub lint_words : ValueParser → Shape
 lint_words forms = command_with (codes "lint") (form_option forms ∷ table_option ∷ file_word ∷ [])

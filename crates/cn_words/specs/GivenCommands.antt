@@ -158,6 +158,13 @@ abbrev pub is_of_lives : List Row → Bool
 is_of_lives rows =
     is_flag_set (codes "recoverable") rows || is_some (first_of (codes "processes") rows)
 
+-- ---- numbers
+
+-- whether a limit stands beside the flag of a number that has none
+abbrev pub is_limit_excluded : List Row → Bool
+is_limit_excluded rows =
+    is_flag_set (codes "without-read") rows && is_some (first_of (codes "limit") rows)
+
 -- ---- the commands
 
 abbrev pub name_of : Command → Text
@@ -215,9 +222,11 @@ pub record IsOfTable (name : Text) (rows : List Row) (table : TextSource) (comma
 
 -- what the words behind the name of a command ask for
 abbrev pub IsInvocation : Text → List Row → Invocation → Type 0
-IsInvocation name rows (Classify limit recoverable form tables) = (name ≡ codes "classify")
-    × HasLimit rows limit × HasFlag (codes "recoverable") rows recoverable
-    × HasDocumentForm rows form × HasTables rows tables.items
+IsInvocation name rows (Classify limit recoverable without_read form tables) =
+    (name ≡ codes "classify") × (is_limit_excluded rows ≡ false) × HasLimit rows limit
+    × HasFlag (codes "recoverable") rows recoverable
+    × HasFlag (codes "without-read") rows without_read × HasDocumentForm rows form
+    × HasTables rows tables.items
 IsInvocation name rows (OfTable table command) = IsOfTable name rows table command
 IsInvocation name rows (Lives table words) = (name ≡ codes "agree")
     × (is_flag_set (codes "recoverable") rows ≡ true) × HasLivesTable rows table

@@ -2,7 +2,7 @@
 ghost use Rattle.std.specs.Prelude.{◌≡◌, IfOk, MatchResult, codes, map, option_map, true};
 ghost use Rattle.clap.specs.Simple.{subcommand_rows_of};
 ghost use Rattle.clap.specs.Walk.{first_of};
-ghost use Rattle.cn_words.specs.GivenCommands.{Finds, HasAnswerForm, HasCertificate, HasDocumentForm, HasForm, HasLimit, HasNumber, HasOpening, HasOptionalNumber, HasTable, HasTables, HasWord, IsInvocation, IsInvocationOf, IsNamed, RefusesCommand, is_flag_set, is_input, is_input_shared, is_table_twice, path_in, path_of, rows_in, table_in};
+ghost use Rattle.cn_words.specs.GivenCommands.{Finds, HasAnswerForm, HasCertificate, HasDocumentForm, HasForm, HasLimit, HasNumber, HasOpening, HasOptionalNumber, HasTable, HasTables, HasWord, IsInvocation, IsInvocationOf, IsNamed, RefusesCommand, is_flag_set, is_input, is_input_shared, is_limit_excluded, is_table_twice, path_in, path_of, rows_in, table_in};
 ghost use Rattle.cn_words.specs.declared.commands.CommandFault.TheVariants.{OutOfMemory};
 
 use crate::lives::{LivesWords, is_flag_set, is_of_lives, lives, lives_table};
@@ -134,6 +134,8 @@ pub enum Invocation<'a> {
         limit: Option<u8>,
         /// Whether the recoverable number is written too.
         recoverable: bool,
+        /// Whether the number without reads is written too. It has no limit.
+        without_read: bool,
         /// The form of the answers.
         form: DocumentForm,
         /// The tables of the types, at least one.
@@ -305,9 +307,19 @@ fn find<'a>(words: &ArgMatches<'a>) -> Option<Command<'a>>
     })
 }
 
+// Whether a limit stands beside the flag of a number that has none.
+fn is_limit_excluded(words: &ArgMatches<'_>) -> bool
+    ensures { result ≡ is_limit_excluded (rows_in words.now) }
+{
+    is_flag_set(words, "without-read") && word(words, "limit").is_some()
+}
+
 fn classify<'a>(alloc: Global, words: &ArgMatches<'a>) -> Result<Option<Invocation<'a>>, AllocError>
     ensures { IfOk result (Finds (IsInvocation (codes "classify") (rows_in words.now))) }
 {
+    if is_limit_excluded(words) {
+        return Ok(None);
+    }
     let Some(limit) = optional_limit(words) else {
         return Ok(None);
     };
@@ -320,6 +332,7 @@ fn classify<'a>(alloc: Global, words: &ArgMatches<'a>) -> Result<Option<Invocati
     Ok(Some(Invocation::Classify {
         limit,
         recoverable: words.get_flag("recoverable"),
+        without_read: words.get_flag("without-read"),
         form,
         tables,
     }))

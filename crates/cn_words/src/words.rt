@@ -99,6 +99,13 @@ With --recoverable a comma, the word recoverable and a second number follow: the
 which the type is n-recording, that is, the number of processes that can agree where each may crash
 and come back with its own memory lost.
 
+With --without-read a comma, the words without read and what is known of one more number follow: how
+many processes can agree where none reads an object but by the operations of its table. No read is
+added: list every way to look at the object. An operation is a read if it leaves every state as it
+is and answers differently in any two; one that tells less helps as far as it tells, and a dequeue
+is no read. List exactly what each operation answers: ok, full and was empty make different numbers.
+It is the number of this bounded table, not of an object without bound, and has no --limit.
+
 With --as markdown the lines are the rows of one table for a document, with its head before the
 first; with --as json each line is one JSON object.
 
@@ -485,10 +492,12 @@ fn classify<'a>(alloc: Global) -> Result<Command<'a>, AllocError>
     ensures { IfOk result (IsCommandFor document_forms classify_words) }
 {
     let recoverable = "Writes the recoverable number of each type too";
+    let without_read = "Also writes the number of each type for objects that are not read";
     let help = "The form in which the numbers are written";
     let command = bare_command(alloc, "classify", CLASSIFY_ABOUT, CLASSIFY_AFTER);
     let command = with_argument(Ok(command), limit(alloc));
     let command = with_argument(command, flag(alloc, "recoverable", recoverable));
+    let command = with_argument(command, flag(alloc, "without-read", without_read));
     let command = with_argument(command, form(alloc, &DOCUMENT_FORMS, help));
     with_argument(command, files(alloc))
 }

@@ -49,8 +49,13 @@ module _ {S F D W : Type 0} (remaining : S → Option (List ℕ)) (left : LazyFi
   -- what the words ask for is done: the tables that `classify` names are classified, a command of one
   -- table is run, or a plan is run by a schedule of steps and crashes
   abbrev pub Does : S → Invocation → Output W → Output W → ℕ → Type 0
-  Does stdin (Classify limit recoverable form tables) u v status = ClassifiesAll stdin
-      (record { limit = limit; recoverable = recoverable; form = form }) tables.items u v status
+  Does stdin (Classify limit recoverable without_read form tables) u v status = ClassifiesAll stdin
+      (record {
+        limit = limit;
+        recoverable = recoverable;
+        without_read = without_read;
+        form = form;
+      }) tables.items u v status
   Does stdin (OfTable table command) u v status = RunsOne stdin table command u v status
   Does stdin (Lives table words) u v status = RunsPlans stdin table words u v status
 

@@ -104,12 +104,14 @@ fn do_command<T: Threads + Wait + Sync + Disk + Eprint, I: Read + Copy + Drop, O
         Invocation::Classify {
             limit,
             recoverable,
+            without_read,
             form,
             tables,
         } => {
             let asked = AskedNumbers {
                 limit: *limit,
                 recoverable: *recoverable,
+                without_read: *without_read,
                 form: *form,
             };
             let first = classify(rt, alloc, stdin, output, faults, asked, tables);

@@ -13,6 +13,9 @@ use Rattle.cn_search.specs.Numbers.{HasNumber}
 use Rattle.cn_search.specs.declared.exact.ConsensusNumber.{ConsensusNumber}
 use Rattle.cn_search.specs.declared.fault.FindFault.{FindFault}
 use Rattle.cn_recover.specs.Recording.{HasRecoverableNumber, IsRecoverableNumberUpTo}
+use Rattle.cn_unread_number.specs.Bounds.{HasUnreadNumber}
+use Rattle.cn_unread_number.specs.BoundsText.{bounds_text}
+use Rattle.cn_unread_number.specs.declared.bounds.NumberBounds.{NumberBounds}
 use Rattle.cn_markdown.specs.Numbers.{numbers_head, numbers_row}
 use Rattle.cn_json.specs.Numbers.{classification_data}
 use Rattle.cn_form.specs.declared.answer_form.DocumentForm.{DocumentForm}
@@ -68,13 +71,21 @@ IsAskedNumber t limit true None = ⊥
 IsAskedNumber t limit true (Some number) = IsRecoverableNumber t limit number
 IsAskedNumber t limit false number = number ≡ None
 
--- the limit has no fault, and these are the name of the type and its numbers
-pub record IsClassificationOf (t : TypeTable) (limit : Option ℕ) (is_asked : Bool)
+-- what is known of the number without reads if that is asked for, and else nothing
+abbrev pub AreAskedBounds : TypeTable → Bool → Option NumberBounds → Type 0
+AreAskedBounds t true None = ⊥
+AreAskedBounds t true (Some bounds) = HasUnreadNumber t bounds
+AreAskedBounds t false bounds = bounds ≡ None
+
+-- the limit has no fault, and these are the name of the type and its numbers, of which the last two
+-- stand there if they are asked for
+pub record IsClassificationOf (t : TypeTable) (limit : Option ℕ) (is_asked is_unread_asked : Bool)
     (c : Classification) : Type 0 where
   pub in_range : given_limit_fault limit ≡ None
   pub name : c.name.now ≡ t.name
   pub number : IsTypeNumber t limit c.number
   pub recoverable : IsAskedNumber t limit is_asked c.recoverable
+  pub without_read : AreAskedBounds t is_unread_asked c.without_read
 
 -- ---- their words
 
@@ -118,15 +129,21 @@ abbrev pub line_with_both : List ℕ → List ℕ → List ℕ → List ℕ
 line_with_both name number recoverable =
     name ++ codes ": " ++ number ++ codes ", recoverable " ++ recoverable ++ codes "\n"
 
--- the line of a type of this name with these numbers in words
-abbrev pub line_of : List ℕ → List ℕ → Option (List ℕ) → List ℕ
-line_of name number None = line_with name number
-line_of name number (Some recoverable) = line_with_both name number recoverable
+-- the line of a type of this name with these numbers in words: the number, the recoverable number,
+-- and what is known of the number without reads
+abbrev pub line_of : List ℕ → List ℕ → Option (List ℕ) → Option (List ℕ) → List ℕ
+line_of name number None None = line_with name number
+line_of name number (Some recoverable) None = line_with_both name number recoverable
+line_of name number None (Some bounds) =
+    name ++ codes ": " ++ number ++ codes ", without read " ++ bounds ++ codes "\n"
+line_of name number (Some recoverable) (Some bounds) =
+    name ++ codes ": " ++ number ++ codes ", recoverable " ++ recoverable
+    ++ codes ", without read " ++ bounds ++ codes "\n"
 
 -- the numbers of a type as a line
 abbrev pub classification_line : Classification → List ℕ
-classification_line c =
-    line_of c.name.now (words_of c.number) (option_map words_of c.recoverable)
+classification_line c = line_of c.name.now (words_of c.number) (option_map words_of c.recoverable)
+    (option_map bounds_text c.without_read)
 
 -- the numbers of a type in a form: as a line of text, as a line with a JSON object, or as a row of
 -- a Markdown table
@@ -135,6 +152,7 @@ classification_in form.Text c = classification_line c
 classification_in form.Json c = compact_text (classification_data c) ++ codes "\n"
 classification_in form.Markdown c =
     numbers_row c.name.now (words_of c.number) (option_map words_of c.recoverable)
+    (option_map bounds_text c.without_read)
 
 -- the limit has no fault, and this is the line of the table with its number
 pub record IsClassified (t : TypeTable) (limit : Option ℕ) (line : List ℕ) : Type 0 where
@@ -159,7 +177,7 @@ pub record IsRecoverablyClassified (t : TypeTable) (limit : Option ℕ) (line : 
 -- ran out
 abbrev pub IsNumbersReport : TypeTable → AskedNumbers → Result Report AppFault → Type 0
 IsNumbersReport t asked (Ok report) = ((c : Classification)
-    × IsClassificationOf t asked.limit asked.recoverable c
+    × IsClassificationOf t asked.limit asked.recoverable asked.without_read c
     × (string_bytes report.text ≡ classification_in asked.form c)) × (report.outcome ≡ Whole)
 IsNumbersReport t asked (Err e) = e ≡ OutOfMemory
 
@@ -179,5 +197,6 @@ HasClassReport text asked r = Then (GivesLimit asked.limit) (λ _. ClassifiesTex
 -- the head of the Markdown table whose rows `classify` writes: the limit is looked at first
 abbrev pub IsHeadReport : AskedNumbers → Result Report AppFault → Type 0
 IsHeadReport asked (Ok report) = (given_limit_fault asked.limit ≡ None)
-    × (string_bytes report.text ≡ numbers_head asked.recoverable) × (report.outcome ≡ Whole)
+    × (string_bytes report.text ≡ numbers_head asked.recoverable asked.without_read)
+    × (report.outcome ≡ Whole)
 IsHeadReport asked (Err e) = (e ≡ OutOfMemory) ⊎ GivesLimit asked.limit (Err e)

@@ -173,6 +173,8 @@ pub fn classify<T: Threads + Sync, R: Read, W: Write>(
     // promise: line-by-classify (HasClassReport: GivesLimit, IsNumbersReport: IsClassificationOf,
     //     classification_in)
     // promise: recoverable-line-by-classify (IsNumbersReport: IsClassificationOf: recoverable)
+    // promise: without-read-by-classify (IsNumbersReport: IsClassificationOf: AreAskedBounds:
+    //     HasUnreadNumber)
     // promise: forms-by-classify (IsNumbersReport: classification_in)
     ensures classified { Reports W.contents (HasClassReport table.new asked)
         output.old output.new result }

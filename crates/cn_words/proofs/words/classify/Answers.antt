@@ -6,6 +6,7 @@ pub returns : goal.returns
 returns c =
     let with_limit = argument_more _ c.with_argument-command.result _ _ _ c.bare_command-command.ensures c.limit.ensures c.with_argument-command.ensures in
     let with_flag = argument_more _ c.with_argument-command-2.result _ _ _ with_limit c.flag.ensures c.with_argument-command-2.ensures in
-    let with_form = argument_more _ c.with_argument-command-3.result _ _ _ with_flag c.form.ensures.2 c.with_argument-command-3.ensures in
+    let with_both = argument_more _ c.with_argument-command-3.result _ _ _ with_flag c.flag-2.ensures c.with_argument-command-3.ensures in
+    let with_form = argument_more _ c.with_argument-command-4.result _ _ _ with_both c.form.ensures.2 c.with_argument-command-4.ensures in
     IfOk-weaker c.with_argument.result _ _ (λ new is. (c.form.ensures.0, c.form.ensures.1, is))
     (argument_more _ c.with_argument.result _ _ _ with_form c.files.ensures c.with_argument.ensures)

@@ -1,0 +1,4 @@
+pub mod Kept
+pub mod Listed
+pub mod Meets
+pub mod Steps

@@ -1,0 +1,17 @@
+use Rattle.std.proofs.Common.{below_more, length, arith}
+use Rattle.cn_further.specs.FurtherNodes.{further_of}
+use Rattle.cn_further.specs.SceneLists.{scene_next, scene_of}
+use Rattle.cn_further.proofs.Steps.{agree_back, listed_same}
+use Rattle.cn_further.proofs.listing.leads_on.Goals as goal
+
+pub loop-process-preserved : goal.loop-process-preserved
+loop-process-preserved c =
+    let n = length c.args.operations.now in
+    let after = scene_of c.after-next.result in
+    let next = scene_next c.args.table.now c.args.operations.now (further_of c.args.follow_ups.now) (scene_of c.args.scene.now) c.loop-process.process in
+    below_more _ _ c.loop-process.invariant
+    (listed_same c.args.scenes.now (length c.after-next.result.stages.items) n after next c.after-next.ensures.scene.1
+    (agree_back n after next c.after-next.ensures.next) (c.has_scene.ensures c.if-not-has_scene.false))
+
+pub returns : goal.returns
+returns c = λ _. record { next = λ j l. c.loop-process.invariant j (omega (arith, l, c.loop-process-test.false)) }

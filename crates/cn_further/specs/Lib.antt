@@ -1,0 +1,3 @@
+pub mod FurtherNodes
+pub mod Meetings
+pub mod SceneLists

@@ -1,0 +1,11 @@
+use Rattle.std.proofs.Common.{◌≡◌, ◌++◌}
+use Rattle.cn_choice.specs.Live.{live_choices}
+use Rattle.cn_game.proofs.search.lost_starts.Given as goal
+
+-- the choices so far and those that are left are all
+abbrev pub invariant-loop-choice : goal.invariant-loop-choice
+invariant-loop-choice l = record {
+  can_next : (goal.iterator-loop-choice).can_next l.choice-iterator;
+  is_finite : (goal.iterator-loop-choice).is_finite l.choice-iterator;
+  all : l.yielded ++ l.choice-iterator ≡ live_choices l.table l.n;
+}

@@ -1,0 +1,4 @@
+pub mod Alike
+pub mod Merged
+pub mod Numbering
+pub mod Rounds

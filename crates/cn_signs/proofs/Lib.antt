@@ -1,0 +1,5 @@
+pub mod RankedStates
+pub mod Rows
+pub mod Sets
+pub mod Theorem
+pub mod Walks

@@ -1,0 +1,3 @@
+pub mod SignChecks
+pub mod SignChoices
+pub mod StateSets

@@ -1,0 +1,16 @@
+pub mod AddedReads
+pub mod Certificates
+pub mod Collects
+pub mod Defended
+pub mod Enough
+pub mod Examples
+pub mod Functions
+pub mod Lasting
+pub mod Merging
+pub mod Nodes
+pub mod Signs
+pub mod Telling
+pub mod Traps
+pub mod Types
+pub mod Undisturbed
+pub mod Views

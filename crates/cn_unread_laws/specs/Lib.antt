@@ -1,0 +1,4 @@
+pub mod Bounds
+pub mod Merging
+pub mod Reads
+pub mod Solving

@@ -1,0 +1,4 @@
+pub mod Agreeing
+pub mod Bounds
+pub mod BoundsText
+pub mod Steps

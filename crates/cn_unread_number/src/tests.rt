@@ -1,0 +1,115 @@
+//! Numbers of worked types.
+
+use crate::{NumberBounds, unread_number};
+use cn_table::read_table;
+use std::alloc::Global;
+use std::test::Fail;
+use std::thread::Threads;
+
+/// A queue with room for one of two letters.
+fn queue_of_one() -> &'static str {
+    "name = \"queue_1\"
+states = [\"q\", \"qa\", \"qb\"]
+responses = [\"ok\", \"full\", \"empty\", \"a\", \"b\"]
+[[operation]]
+name = \"enq_a\"
+response = [\"ok\", \"full\", \"full\"]
+next = [\"qa\", \"qa\", \"qb\"]
+[[operation]]
+name = \"enq_b\"
+response = [\"ok\", \"full\", \"full\"]
+next = [\"qb\", \"qa\", \"qb\"]
+[[operation]]
+name = \"deq\"
+response = [\"empty\", \"a\", \"b\"]
+next = [\"q\", \"q\", \"q\"]
+"
+}
+
+/// A bit that is written once, with an operation that answers it.
+fn sticky_bit() -> &'static str {
+    "name = \"sticky_bit\"
+states = [\"unset\", \"zero\", \"one\"]
+responses = [\"done\", \"unset\", \"zero\", \"one\"]
+[[operation]]
+name = \"write_0\"
+response = [\"done\", \"done\", \"done\"]
+next = [\"zero\", \"zero\", \"one\"]
+[[operation]]
+name = \"write_1\"
+response = [\"done\", \"done\", \"done\"]
+next = [\"one\", \"zero\", \"one\"]
+[[operation]]
+name = \"look\"
+response = [\"unset\", \"zero\", \"one\"]
+next = [\"unset\", \"zero\", \"one\"]
+"
+}
+
+/// A bit that nothing tells.
+fn silent_bit() -> &'static str {
+    "name = \"silent_bit\"
+states = [\"unset\", \"zero\", \"one\"]
+responses = [\"done\"]
+[[operation]]
+name = \"write_0\"
+response = [\"done\", \"done\", \"done\"]
+next = [\"zero\", \"zero\", \"one\"]
+[[operation]]
+name = \"write_1\"
+response = [\"done\", \"done\", \"done\"]
+next = [\"one\", \"zero\", \"one\"]
+"
+}
+
+/// A word with a compare-and-swap from 0 that answers whether it was done, and back.
+fn compare_and_swap() -> &'static str {
+    "name = \"cas_3_bool\"
+states = [\"0\", \"1\", \"2\"]
+responses = [\"yes\", \"no\"]
+[[operation]]
+name = \"cas01\"
+response = [\"yes\", \"no\", \"no\"]
+next = [\"1\", \"1\", \"2\"]
+[[operation]]
+name = \"cas02\"
+response = [\"yes\", \"no\", \"no\"]
+next = [\"2\", \"1\", \"2\"]
+[[operation]]
+name = \"cas10\"
+response = [\"no\", \"yes\", \"no\"]
+next = [\"0\", \"0\", \"2\"]
+[[operation]]
+name = \"cas12\"
+response = [\"no\", \"yes\", \"no\"]
+next = [\"0\", \"2\", \"2\"]
+[[operation]]
+name = \"cas20\"
+response = [\"no\", \"no\", \"yes\"]
+next = [\"0\", \"1\", \"0\"]
+[[operation]]
+name = \"cas21\"
+response = [\"no\", \"no\", \"yes\"]
+next = [\"0\", \"1\", \"1\"]
+"
+}
+
+/// What is known of the number of the table that the text spells.
+fn bounds<T: Threads + Sync>(rt: &T, alloc: Global, text: &str) -> Result<NumberBounds, Fail> {
+    let table = read_table(alloc, text.as_bytes())?;
+    Ok(unread_number(rt, alloc, &table)?.evidence.bounds)
+}
+
+#[test]
+fn numbers_of_worked_types(rt: HostRuntime) -> Result<(), Fail> {
+    let alloc = rt.alloc();
+    let two = bounds(&rt, alloc, queue_of_one())?;
+    let all = bounds(&rt, alloc, sticky_bit())?;
+    let one = bounds(&rt, alloc, silent_bit())?;
+    let three = bounds(&rt, alloc, compare_and_swap())?;
+    assert!(rt; two == NumberBounds::Exactly(2));
+    assert!(rt; all == NumberBounds::Infinite);
+    assert!(rt; one == NumberBounds::Exactly(1));
+    assert!(rt; three == NumberBounds::Exactly(3));
+    Ok(())
+}

@@ -1,0 +1,4 @@
+pub mod OutcomePairs
+pub mod SetLoops
+pub mod SilentLists
+pub mod Telling

@@ -1,0 +1,3 @@
+pub mod LookTables
+pub mod SilentOperations
+pub mod VisibleChoices
