@@ -12,7 +12,7 @@ use Rattle.cn_choice.specs.Canonical.{Choice, raw_choice_of}
 use Rattle.cn_choice.specs.RawChoices.{RawChoice}
 use Rattle.cn_choice.specs.declared.team.Team.{Team}
 use Rattle.cn_choice.specs.declared.team.Team.TheVariants.{A, B}
-use Rattle.cn_unread.specs.Nodes.{AreMoves, BeganIn, IsNode, Move, Node, Scene, next_scene}
+use Rattle.cn_unread.specs.Nodes.{AreMoves, BeganIn, IsNode, Node, Scene}
 use Rattle.cn_unread.specs.Nodes.{scene_after, team_of}
 use Rattle.cn_unread.specs.Nodes.Move.{Finish}
 use Rattle.cn_further.specs.FurtherNodes.{TellsFirst, further_node, further_of, move_by}

@@ -1,9 +1,8 @@
 //! Choices with further operations.
-ghost use Rattle.std.specs.Prelude.{◌≡◌, ◌<◌, ◌≤◌, ◌+◌, ◌++◌, ◌↔◌, IfOk, IfSome, IsTrue, length};
+ghost use Rattle.std.specs.Prelude.{◌≡◌, ◌≤◌, ◌+◌, ◌++◌, ◌↔◌, IfOk, IfSome, IsTrue, length};
 ghost use Rattle.cn_choice.specs.Canonical.{IsChoiceFor};
 ghost use Rattle.cn_choice.specs.declared.limits.TheConstants.{MOST_PROCESSES};
-ghost use Rattle.cn_further.specs.FurtherNodes.{AreKnown, TellsFirst, further_of};
-ghost use Rattle.cn_further.specs.SceneLists.{IsListing};
+ghost use Rattle.cn_further.specs.FurtherNodes.{AreKnown, TellsFirst};
 
 use crate::follow_up::{FollowUp, are_of};
 use crate::meeting::meeting_in;

@@ -1,10 +1,10 @@
 //! Lists of scenes, and the check that they are closed and tell the teams.
-ghost use Rattle.std.specs.Prelude.{◌≡◌, ◌<◌, ◌≤◌, ◌&&◌, ℕ, All, IsTrue, None, length, nat_eq};
+ghost use Rattle.std.specs.Prelude.{◌≡◌, ◌<◌, ◌≤◌, ◌&&◌, All, IsTrue, None, length, nat_eq};
 ghost use Rattle.std.specs.List.{list_any};
 ghost use Rattle.cn_choice.specs.declared.limits.TheConstants.{MOST_PROCESSES};
 ghost use Rattle.cn_choice.specs.declared.team.Team.TheVariants.{A, B};
 ghost use Rattle.cn_further.specs.FurtherNodes.{AreKnown, further_of, next_by};
-ghost use Rattle.cn_further.specs.SceneLists.{HasStarts, IsClosedList, IsListed, IsListing, IsSceneOf, LeadsOn, TellsRight, kept_of, same_kept, scene_of, told_by};
+ghost use Rattle.cn_further.specs.SceneLists.{HasStarts, IsClosedList, IsListed, IsListing, LeadsOn, TellsRight, kept_of, same_kept, scene_of, told_by};
 
 use crate::follow_up::{FollowUp, next_operation};
 use crate::scene::Scene;

@@ -1,5 +1,5 @@
 //! Meetings: processes that have finished with the same after schedules of both teams.
-ghost use Rattle.std.specs.Prelude.{◌≡◌, ◌<◌, ◌≤◌, ◌-◌, All, IsTrue, length, slice_index};
+ghost use Rattle.std.specs.Prelude.{◌<◌, ◌≤◌, ◌-◌, All, IsTrue, length, slice_index};
 ghost use Rattle.cn_choice.specs.declared.limits.TheConstants.{MOST_PROCESSES};
 ghost use Rattle.cn_further.specs.FurtherNodes.{AreKnown, further_of};
 ghost use Rattle.cn_further.specs.Meetings.{IsMeeting, scene_along};

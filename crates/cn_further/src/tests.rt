@@ -1,6 +1,5 @@
 //! Tests of what no contract says: which further operations tell the teams, and that the search
 //! finds them.
-ghost use Rattle.std.specs.Prelude.{◌≤◌};
 
 use crate::{FollowUp, Further, find_further};
 use arrayvec::ArrayVec;

@@ -6,7 +6,7 @@ use arrayvec::ArrayVec;
 use cn_choice::MOST_PROCESSES;
 
 /// How many numbers there are by which positions are looked up.
-pub(crate) const HASHES: usize = 4096;
+pub(crate) const HASHES: usize = 16_384;
 
 /// What standings are in order of: the kind, the operation and the response.
 fn key(standing: Standing) -> (u8, u8, u8) {

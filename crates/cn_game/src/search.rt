@@ -127,8 +127,7 @@ fn lost_starts(
 /// A trap for all choices for n processes, if one is found among fewer than `most` positions. n is
 /// from 2 to [`MOST_PROCESSES`](cn_choice::MOST_PROCESSES).
 ///
-/// The type of a table with a trap is not defended for n. Where none is found it may be. The
-/// positions of the trap have no process that is lost, and stand in order of their states.
+/// The type of a table with a trap is not defended for n. Where none is found it may be.
 ///
 /// # Errors
 ///

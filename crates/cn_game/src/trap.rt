@@ -257,6 +257,9 @@ fn catches_all(table: &Table, turns: &Turns, n: u8) -> bool
 impl Trap {
     /// Whether this is a trap for all choices for n processes: it shows that the table is not
     /// defended for n. n is from 2 to [`MOST_PROCESSES`](cn_choice::MOST_PROCESSES).
+    ///
+    /// It takes no memory. It is fast where the turns stand in order of the states of their
+    /// positions, as [`find_trap`](crate::find_trap) leaves them.
     pub fn refutes(&self, table: &Table, n: u8) -> bool
         requires some { 2 ≤ n }
         requires few { n ≤ MOST_PROCESSES }

@@ -70,7 +70,7 @@ fn one_class(states: u8) -> ArrayVec<u8, MOST_STATES>
 }
 
 /// For each state the first one that no operations tell apart from it.
-pub fn first_states(table: &Table) -> ArrayVec<u8, MOST_STATES>
+pub(crate) fn first_states(table: &Table) -> ArrayVec<u8, MOST_STATES>
     ensures firsts { AreFirsts table.now result.items }
     ensures table { IsTypeTable table.now }
 {

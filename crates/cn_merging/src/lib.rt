@@ -19,5 +19,4 @@ mod numbering;
 #[cfg(test)]
 mod tests;
 
-pub use firsts::first_states;
 pub use merged::{Merged, merge};

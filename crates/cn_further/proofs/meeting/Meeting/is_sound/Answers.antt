@@ -1,4 +1,4 @@
-use Rattle.std.proofs.Common.{◌∙◌, sym, refl}
+use Rattle.std.proofs.Common.{◌∙◌, sym}
 use Rattle.cn_further.specs.FurtherNodes.{further_of}
 use Rattle.cn_further.proofs.Kept.{same_kept_decides}
 use Rattle.cn_further.proofs.Meets.{meets}
