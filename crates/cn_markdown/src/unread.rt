@@ -272,7 +272,7 @@ pub fn unread_explanation_markdown(
     explanation: &UnreadExplanation,
 ) -> Result<String, AllocError>
     requires { IsUnreadExplanation explanation.now }
-    // promise: explanation-without-reads (unread_markdown)
+    // promise: unread-explanation (unread_markdown)
     ensures { IfOk result (λ text. string_bytes text ≡ unread_markdown explanation.now) }
 {
     let mut text = String::new(alloc);

@@ -2,4 +2,5 @@ mod Behind
 mod FoldLemmas
 mod Numbered
 mod RowWidths
+mod Texts
 mod Widths

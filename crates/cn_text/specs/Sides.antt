@@ -18,7 +18,7 @@ heading words k = if k == 0 then words else spaces (length words)
 
 -- a text on the left side, filled up to a width where one stands on the right
 abbrev pub left_side : ℕ → List ℕ → Bool → List ℕ
-left_side width text beside = padded (if beside then width else 0) text
+left_side width text beside = padded (if beside then width else 0) (text ++ [])
 
 -- the text on the right side, if one is left
 abbrev pub right_side : List (List ℕ) → ℕ → List ℕ

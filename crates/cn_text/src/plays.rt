@@ -2,7 +2,7 @@
 ghost use Rattle.std.specs.Prelude.{◌≡◌, ◌++◌, string_bytes, All, IfSome, OnOk};
 ghost use Rattle.cn_text.specs.Plays.{play_end, play_runs, play_text};
 ghost use Rattle.cn_text.specs.Ways.{numbered};
-ghost use Rattle.cn_unread_reasons.specs.Known.{IsKnownPlay, IsKnownPlayEnd};
+ghost use Rattle.cn_unread_reasons.specs.Known.{IsKnownPlay, IsKnownEnd};
 
 use crate::ways::{push_both_runs, push_way_start};
 use cn_pieces::push_pieces;
@@ -14,7 +14,7 @@ use std::alloc::AllocError;
 /// The process that gets the same in both runs, and the state that both leave.
 #[tactic(auto, unfolding(crate::specs::Plays::play_end))]
 fn push_play_end(text: &mut String, table: &Table, end: PlayEnd) -> Result<(), AllocError>
-    requires { IsKnownPlayEnd table.now end }
+    requires { IsKnownEnd table.now end }
     ensures { OnOk result (string_bytes text.new
         ≡ string_bytes text.old ++ play_end table.now end) }
 {

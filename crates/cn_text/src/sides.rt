@@ -42,11 +42,7 @@ fn push_left_side(
     ensures { OnOk result (string_bytes text.new
         ≡ string_bytes text.old ++ left_side width shown.now beside) }
 {
-    if beside {
-        push_padded(text, width, &[shown])
-    } else {
-        text.push_str(shown)
-    }
+    push_padded(text, if beside { width } else { 0 }, &[shown])
 }
 
 fn push_right_side(text: &mut String, right: &[String], place: usize) -> Result<(), AllocError>

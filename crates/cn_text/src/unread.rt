@@ -324,7 +324,7 @@ pub fn unread_explanation_of(
     explanation: &UnreadExplanation,
 ) -> Result<String, AllocError>
     requires { IsUnreadExplanation explanation.now }
-    // promise: explanation-without-reads (unread_text)
+    // promise: unread-explanation (unread_text)
     ensures { IfOk result (λ text. string_bytes text ≡ unread_text explanation.now) }
 {
     let mut text = String::new(alloc);

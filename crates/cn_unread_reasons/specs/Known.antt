@@ -54,7 +54,7 @@ pub record IsKnownSigns (t : TypeTable) (s : SignWitness) : Type 0 where
   pub choice : sign_choices.IsKnownChoice t s.choice
   pub signs : All (IsKnownAnswer t) s.signs.items
 
-pub record IsKnownPlayEnd (t : TypeTable) (e : PlayEnd) : Type 0 where
+pub record IsKnownEnd (t : TypeTable) (e : PlayEnd) : Type 0 where
   pub process : e.process < MOST_PROCESSES
   pub state : e.state.0 < length t.states
 
@@ -62,7 +62,7 @@ pub record IsKnownPlay (t : TypeTable) (p : Play) : Type 0 where
   pub choice : IsKnownChoice t p.choice
   pub a_first : All (IsKnownStep t) p.a_first.items
   pub b_first : All (IsKnownStep t) p.b_first.items
-  pub end : IfSome p.end (IsKnownPlayEnd t)
+  pub end : IfSome p.end (IsKnownEnd t)
 
 pub record IsKnownTrap (t : TypeTable) (p : PlayedTrap) : Type 0 where
   pub some : 2 ≤ p.processes
