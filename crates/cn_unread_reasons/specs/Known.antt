@@ -1,10 +1,10 @@
 -- Parts of an explanation are of a table: their states, operations and responses are numbers of it,
 -- and their processes are among the most that there can be.
-use Rattle.std.specs.Prelude.{◌<◌, ◌≤◌, ⊤, length, All, IfSome}
+use Rattle.std.specs.Prelude.{◌≡◌, ◌+◌, ◌<◌, ◌≤◌, ⊤, length, All, IfSome}
 use Rattle.cn_table.specs.TypeTable.{TypeTable}
 use Rattle.cn_choice.specs.declared.limits.TheConstants.{MOST_PROCESSES}
 use Rattle.cn_further.specs.declared.follow_up.FollowUp.{FollowUp}
-use Rattle.cn_reasons.specs.Known.{IsKnownChoice, IsKnownGroup, IsKnownStep}
+use Rattle.cn_reasons.specs.Known.{IsKnownChoice, IsKnownGroup, IsKnownState, IsKnownStep}
 use Rattle.cn_signs.specs.SignChoices as sign_choices
 use Rattle.cn_unread_reasons.specs.declared.explanation.MostReason.{MostReason}
 use Rattle.cn_unread_reasons.specs.declared.explanation.MostReason.TheVariants.{EachNumber, Open, Trap, WithReads}
@@ -56,7 +56,7 @@ pub record IsKnownSigns (t : TypeTable) (s : SignWitness) : Type 0 where
 
 pub record IsKnownEnd (t : TypeTable) (e : PlayEnd) : Type 0 where
   pub process : e.process < MOST_PROCESSES
-  pub state : e.state.0 < length t.states
+  pub state : IsKnownState t e.state
 
 pub record IsKnownPlay (t : TypeTable) (p : Play) : Type 0 where
   pub choice : IsKnownChoice t p.choice
@@ -64,10 +64,12 @@ pub record IsKnownPlay (t : TypeTable) (p : Play) : Type 0 where
   pub b_first : All (IsKnownStep t) p.b_first.items
   pub end : IfSome p.end (IsKnownEnd t)
 
+-- for 2 to MOST_PROCESSES processes; with the choices whose plays are not told they are all
 pub record IsKnownTrap (t : TypeTable) (p : PlayedTrap) : Type 0 where
   pub some : 2 ≤ p.processes
   pub few : p.processes ≤ MOST_PROCESSES
   pub plays : All (IsKnownPlay t) p.plays.items
+  pub count : p.count ≡ length p.plays.items + p.more
 
 abbrev pub IsKnownReason : TypeTable → MostReason → Type 0
 IsKnownReason t Open = ⊤
