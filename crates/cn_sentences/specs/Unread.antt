@@ -54,7 +54,8 @@ answer_text t before a = before ++ (name_at t.responses a.response.0 ++ (codes "
 -- several of them: the first behind a word of its own, the others behind commas
 abbrev pub answers_text : TypeTable → List ℕ → List Answer → List ℕ
 answers_text t before [] = []
-answers_text t before (a ∷ as) = answer_text t before a ++ flat_map (answer_text t (codes ", ")) as
+answers_text t before (a ∷ others) =
+    answer_text t before a ++ flat_map (answer_text t (codes ", ")) others
 
 -- the response to the operation of the choice, and what the process gets then
 unfoldable pub unread_sight_text : TypeTable → UnreadSight → List ℕ
