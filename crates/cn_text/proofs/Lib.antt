@@ -2,5 +2,4 @@ mod Behind
 mod FoldLemmas
 mod Numbered
 mod RowWidths
-mod Texts
 mod Widths

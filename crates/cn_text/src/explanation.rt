@@ -101,7 +101,13 @@ fn push_witness(
     let mut line = String::new(alloc);
     push_witness_line(&mut line, table, witness.processes, &witness.choice)?;
     push_folded(alloc, text, line.as_str())?;
-    push_views(alloc, text, table, &witness.choice, witness.views.as_slice())?;
+    push_views(
+        alloc,
+        text,
+        table,
+        &witness.choice,
+        witness.views.as_slice(),
+    )?;
     push_pieces(
         text,
         &["  No process has a pair on both sides, so each can tell which team was first.\n"],

@@ -46,11 +46,11 @@ fn readers<'a>(kind: NumberKind) -> &'a str
 }
 
 #[tactic(auto, unfolding(crate::specs::Reasons::number_line))]
-fn push_number_line(
+fn push_number_line<'a>(
     text: &mut String,
-    table: &Table,
+    table: &'a Table,
     kind: NumberKind,
-    words: &str,
+    words: &'a str,
 ) -> Result<(), AllocError>
     ensures { OnOk result (string_bytes text.new
         ≡ string_bytes text.old ++ number_line table.now kind words.now) }
@@ -287,11 +287,7 @@ fn left_out<'a>(version: u8) -> &'a str
 
 /// What is left out behind the ways of a list of this version.
 #[tactic(auto, unfolding(crate::specs::Reasons::ways_notes))]
-pub(crate) fn push_ways_notes(
-    text: &mut String,
-    more: usize,
-    version: u8,
-) -> Result<(), AllocError>
+pub(crate) fn push_ways_notes(text: &mut String, more: usize, version: u8) -> Result<(), AllocError>
     // promise: parts-of-explanations (same_ways)
     ensures { OnOk result (string_bytes text.new
         ≡ string_bytes text.old ++ ways_notes more version) }

@@ -11,8 +11,8 @@ ghost use Rattle.cn_text.specs.Recoverable.{no_more, not_refuted, recoverable_te
 use crate::folded::push_folded;
 use crate::limits::LIVE_VERSION;
 use crate::reasons::{
-    NumberKind, push_each_number, push_example, push_no_list, push_start, push_states_line, push_ways_end,
-    push_ways_words, push_witness_line,
+    NumberKind, push_each_number, push_example, push_no_list, push_start, push_states_line,
+    push_ways_end, push_ways_words, push_witness_line,
 };
 use crate::ways::push_recoverable_ways;
 use cn_pieces::push_pieces;

@@ -167,8 +167,7 @@ fn has_room(widths: SideWidths) -> bool
     requires { widths.label ≤ 9 }
     ensures { result ≡ has_room widths }
 {
-    widths.texts <= WIDEST_LINE
-        && widths.label + widths.texts + widths.texts + 27 <= WIDEST_LINE
+    widths.texts <= WIDEST_LINE && widths.label + widths.texts + widths.texts + 27 <= WIDEST_LINE
 }
 
 /// The texts of a group: the sides side by side if a line has room for them, else one below the

@@ -25,9 +25,7 @@ use cn_sentences::{
 };
 use cn_table::Table;
 use cn_unread_number::NumberBounds;
-use cn_unread_reasons::{
-    MostReason, PlayedTrap, SignWitness, UnreadExplanation, UnreadWitness,
-};
+use cn_unread_reasons::{MostReason, PlayedTrap, SignWitness, UnreadExplanation, UnreadWitness};
 use std::alloc::{AllocError, Global};
 
 /// Whether the number is at least this, and at most this if there is a greatest one.
@@ -43,11 +41,7 @@ fn is_least(bounds: NumberBounds, processes: u8) -> bool
 }
 
 /// For how many processes the witness is, if these are not the least.
-fn push_least_line(
-    text: &mut String,
-    bounds: NumberBounds,
-    processes: u8,
-) -> Result<(), AllocError>
+fn push_least_line(text: &mut String, bounds: NumberBounds, processes: u8) -> Result<(), AllocError>
     ensures { OnOk result (string_bytes text.new
         ≡ string_bytes text.old ++ least_line bounds processes) }
 {
@@ -87,7 +81,13 @@ fn push_witness(
     let mut lines = String::new(alloc);
     push_witness_lines(&mut lines, table, witness)?;
     push_folded(alloc, text, lines.as_str())?;
-    push_unread_views(alloc, text, table, &witness.choice, witness.views.as_slice())?;
+    push_unread_views(
+        alloc,
+        text,
+        table,
+        &witness.choice,
+        witness.views.as_slice(),
+    )?;
     push_pieces(
         text,
         &["  No process gets the same on both sides, so each can tell which team was first.\n"],

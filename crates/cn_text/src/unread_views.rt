@@ -86,7 +86,14 @@ fn push_view(
 {
     let left = sight_texts(alloc, table, view.a_first.as_slice())?;
     let right = sight_texts(alloc, table, view.b_first.as_slice())?;
-    push_sides(alloc, text, widths, view.group, left.as_slice(), right.as_slice())
+    push_sides(
+        alloc,
+        text,
+        widths,
+        view.group,
+        left.as_slice(),
+        right.as_slice(),
+    )
 }
 
 /// What the processes of a witness with this choice get, a group at a time.

@@ -1,6 +1,6 @@
-use Rattle.std.proofs.Common.{List, ℕ, [], ◌∷◌, refl, string_bytes}
+use Rattle.std.proofs.Common.{List, ℕ, refl, string_bytes}
 use Rattle.cn_pieces.proofs.Ends.{as_wanted}
-use Rattle.cn_text.specs.Reasons.{more_line, same_ways, ways_notes}
+use Rattle.cn_text.specs.Reasons.{more_line, ways_notes}
 use Rattle.cn_text.proofs.Behind.{behind}
 use Rattle.cn_text.proofs.reasons.push_ways_notes.Goals as goal
 

@@ -1,6 +1,6 @@
 use Rattle.std.proofs.Common.{◌≡◌, map, take}
 use Rattle.cn_table.specs.DraftView.{texts_view}
-use Rattle.cn_text.specs.UnreadViews.{unread_sight_text}
+use Rattle.cn_sentences.specs.Unread.{unread_sight_text}
 use Rattle.cn_text.proofs.unread_views.sight_texts.Given as goal
 
 -- the texts so far

@@ -10,7 +10,7 @@ returns c =
     let state : List ℕ = c.state_name.result.now in
     let first : List ℕ = string_bytes c.push_way_start.new.text in
     let second : List ℕ = string_bytes c.push_pieces.new.text in
-    as_last _ second (both_runs c.args.table.now false way.choice.start c.as_slice.result.now c.as_slice-2.result.now) _ _ c.push_both_runs.ensures
+    as_last _ second (both_runs c.args.table.now false way.choice.start c.as_slice-a_first.result.now c.as_slice-b_first.result.now) _ _ c.push_both_runs.ensures
     (behind_pieces (codes "        both leave " ∷ state ∷ codes ":\n" ∷ []) first second _ _ c.in_ok-push_pieces.ensures
     (behind (string_bytes c.args.text.now) (way_start c.args.table.now c.args.number way.choice) first _ _ c.in_ok-push_way_start.ensures
-    (rw (c.state_name.ensures, c.as_slice.ensures.value, c.as_slice-2.ensures.value) refl)))
+    (rw (c.state_name.ensures, c.as_slice-a_first.ensures.value, c.as_slice-b_first.ensures.value) refl)))
