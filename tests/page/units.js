@@ -719,7 +719,7 @@ describe('an explanation without reads', () => {
     it('has a witness, and two runs of the adversary', () => {
         const text = shown(QUEUE);
         has(text, 'Why 2: by its responses', 'starts in qa; A: p0 does deq; B: p1 does deq.', 'p0 deq got a got empty p1 deq got empty got a');
-        has(text, 'Why not 3: in each of 24 ways', 'Start q; A: p0 does enq_a; B: p1 does enq_b, p2 does deq.', 'with different decisions');
+        has(text, 'Why not 3: in each of 24 ways', 'The first of them: start q; A: p0 does enq_a; B: p1 does enq_b, p2 does deq.', 'with different decisions');
         has(text, 'A first q p0 enq_a answers ok qa', 'B first q p1 enq_b answers ok qb p2 deq answers b q p0 enq_a answers ok qa');
         has(text, 'p0 (A) enq_a: ok enq_a: ok p1 (B) enq_b: ok p2 (B) deq: b');
         has(text, 'p0 gets the same in both runs, and both leave the object in state qa. So p0 decides the same in both.');
@@ -755,7 +755,7 @@ describe('an explanation without reads', () => {
 
     it('of runs without an end says so', () => {
         const endless = { ...QUEUE, refuted: { ...QUEUE.refuted, choices: [{ ...CHOICE, process: null }], count: 1 } };
-        has(shown(endless), 'in the 1 way to choose', 'go on like this for ever');
+        has(shown(endless), 'in the 1 way to choose', 'Start q; A: ', 'go on like this for ever');
     });
 
     it('tells what processes do next, and states that are one', () => {

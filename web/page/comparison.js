@@ -86,7 +86,7 @@ var Cnum = globalThis.Cnum || {};
             this.keepButton = button(say('keep_table'), () => this.keep());
             this.answer = element('div', { 'aria-live': 'polite' });
             this.beside = element('div', { 'aria-live': 'polite' });
-            this.waiting = element('p', { hidden: '' }, say('searching'), ' ', button(say('break_off'), () => this.breakOff()));
+            this.waiting = element('div', { hidden: '' }, say('searching'), ' ', button(say('break_off'), () => this.breakOff()));
             const buttons = element('div', { class: 'buttons' }, this.pairsButton, this.withoutButton, this.keepButton);
             place.replaceChildren(buttons, this.waiting, this.answer, this.beside);
         }

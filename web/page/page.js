@@ -436,9 +436,10 @@ var Cnum = globalThis.Cnum || {};
             if (this.reads) return;
             const told = this.reasons.get(false);
             const graph = told && Cnum.mergedGraph(this.graph, told.merged);
-            const page = { picture: choice => Cnum.pictureOf(graph, choice), printed: () => this.printedUnread() };
-            Cnum.showUnreadExplanation(at('why'), told, page);
+            const picture = ({ start, processes }) => Cnum.pictureOf(graph, { start, roles: processes });
+            Cnum.showUnreadExplanation(at('why'), told, { picture, printed: () => this.printedUnread() });
             Cnum.explainWords(at('why'));
+            if (told) this.redraw();
         }
 
         // Takes the choice of a reader: objects that can be read, or not.
@@ -446,6 +447,7 @@ var Cnum = globalThis.Cnum || {};
             this.reads = reads;
             this.tellChoice();
             at('why').replaceChildren();
+            if (at('picture').firstElementChild) this.redraw();
             if (reads && this.certificate) this.showReasons();
             if (!reads && this.numbers.has(false)) this.showUnreadReasons();
             if (this.certificate) this.offerLimits();
@@ -569,12 +571,24 @@ var Cnum = globalThis.Cnum || {};
             return runs;
         }
 
-        // The picture, with the start and the teams of this plan, if there is one.
+        // The picture, with the start and the teams of this plan of the protocol, if there is one.
         draw(plan) {
             clearTimeout(this.early);
+            this.plan = plan;
+            this.redraw();
+        }
+
+        // The same for the number that is chosen: without reads, with those of its witness.
+        redraw() {
+            const plan = this.reads ? this.plan : this.unreadPlan();
             this.picture.show(this.graph, plan);
             at('legend').hidden = !plan;
             at('picture-svg').disabled = at('picture-png').disabled = false;
+        }
+
+        unreadPlan() {
+            const { witness } = this.reasons.get(false) || {};
+            return witness ? { start: witness.start, roles: witness.processes } : null;
         }
 
         // Shows that a search runs, and for how long, until it ends.

@@ -53,7 +53,7 @@ var Cnum = globalThis.Cnum || {};
             const row = run(steps, team, start, doubting);
             const ofSteps = [...row.children].slice(2); // behind the team and the start state: of each step its arrow and its state
             ofSteps.forEach((it, at) => this.seenFrom(Math.floor(at / 2), it));
-            return element('section', {}, element('h4', {}, say('run_of_two', { number: index + 1 })), wide(say('states_of_run'), row), wide(say('states_of_run'), picture));
+            return element('section', {}, element('h4', {}, say('run_of_two', { number: index + 1 })), row, wide(say('states_of_run'), picture));
         }
 
         // What each process got in both runs. The row of the one that got the same stands out.

@@ -38,7 +38,7 @@ var Cnum = globalThis.Cnum || {};
     function refutation({ processes: count, count: ways, positions, choices: [choice] }, picture) {
         const title = head(ways === 1 ? 'why_not_unread_one' : 'why_not_unread', { count, ways });
         if (!choice) return [title];
-        const first = element('p', {}, say('collision_of', { start: choice.start, tasks: tasks(choice.processes) }));
+        const first = element('p', {}, say(ways === 1 ? 'collision_of' : 'first_way', { start: choice.start, tasks: tasks(choice.processes) }));
         return [title, first, ...Cnum.twoRuns(choice, picture(choice)), paragraph('runs_positions', { positions })];
     }
 
