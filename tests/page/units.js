@@ -722,7 +722,7 @@ describe('an explanation without reads', () => {
         has(text, 'Why not 3: in each of 24 ways', 'The first of them: start q; A: p0 does enq_a; B: p1 does enq_b, p2 does deq.', 'with different decisions');
         has(text, 'A first q p0 enq_a answers ok qa', 'B first q p1 enq_b answers ok qb p2 deq answers b q p0 enq_a answers ok qa');
         has(text, 'p0 (A) enq_a: ok enq_a: ok p1 (B) enq_b: ok p2 (B) deq: b');
-        has(text, 'p0 gets the same in both runs, and both leave the object in state qa. So p0 decides the same in both.');
+        has(text, 'p0 gets the same in both runs, and the object is in state qa after each. So p0 decides the same in both.');
         has(text, '126 positions', 'for 3 without reads: this is proved.');
         has(shown(QUEUE, 'de'), 'Warum 2: ', 'Warum nicht 3: bei jeder von 24 Weisen', 'p0 bekommt in beiden Läufen dasselbe', 'ohne Lesen: das ist bewiesen');
     });

@@ -245,7 +245,7 @@ Cnum.languages.de.texts = {
     step_back: 'Zurück',
     step_on: 'Weiter',
     got_in_both: 'was jeder Prozess in beiden Läufen bekommt',
-    runs_same: '{process} bekommt in beiden Läufen dasselbe, und beide hinterlassen das Objekt im Zustand {state}. Also entscheidet {process} in beiden dasselbe.',
+    runs_same: '{process} bekommt in beiden Läufen dasselbe, und nach jedem ist das Objekt im Zustand {state}. Also entscheidet {process} in beiden dasselbe.',
     runs_endless: 'So kann der Gegner für immer weitermachen, und kein Prozess kommt zu einer Entscheidung.',
     runs_positions: 'Was auch immer die Prozesse als Nächstes tun, der Gegner hat solche Läufe: {positions} Stellungen zeigen es, mit einem Zug in jeder.',
     why_proved_unread: 'Kein Protokoll überhaupt schafft es für {count} ohne Lesen: das ist bewiesen.',

@@ -246,7 +246,7 @@ Cnum.languages.en.texts = {
     step_back: 'Back',
     step_on: 'Next',
     got_in_both: 'what each process gets in both runs',
-    runs_same: '{process} gets the same in both runs, and both leave the object in state {state}. So {process} decides the same in both.',
+    runs_same: '{process} gets the same in both runs, and the object is in state {state} after each. So {process} decides the same in both.',
     runs_endless: 'The adversary can go on like this for ever, and no process comes to a decision.',
     runs_positions: 'Whatever the processes do next, the adversary has such runs: {positions} positions show it, with a move in each.',
     why_proved_unread: 'No protocol at all does it for {count} without reads: this is proved.',
