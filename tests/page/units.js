@@ -504,6 +504,11 @@ describe('answers', () => {
         });
     }
 
+    it('have a question for each number', () => {
+        const questions = [2, 'infinite', { at_least: 5 }].map(Cnum.questionOf);
+        assert.deepEqual(questions, ['Why 2 and not 3?', 'Why any number?', 'Why?']);
+    });
+
     const FAULTS = [
         ['cnum: table: 8 RowLength', 'A row does not have one entry for each state.'],
         ['cnum: check: 6 NotNext 8', 'Its collision 8 is not for the choice whose turn it is.'],
@@ -555,7 +560,7 @@ describe('a picture in DOT', () => {
     it('is shown with some states as one', () => {
         const line = text => `x${text}/r`;
         const arrows = [[0, 1, 1], [0, 2, 2], [1, 2, 3], [2, 0, 4], [1, 0, 5]].map(([from, to, text]) => ({ from, to, lines: [line(text)] }));
-        const merged = Cnum.mergedGraph({ names: ['a', 'b', 'c'], arrows }, [{ state: 'c', class: 'b' }]);
+        const merged = Cnum.mergedGraph({ names: ['a', 'b', 'c'], arrows }, ['aa', 'bb', 'cb'].map(it => ({ state: it[0], class: it[1] })));
         assert.deepEqual(merged.names, ['a', 'b']);
         const wanted = [[0, 1, ['x1/r', 'x2/r']], [1, 1, ['x3/r']], [1, 0, ['x5/r']]];
         assert.deepEqual(merged.arrows.map(it => [it.from, it.to, it.lines]), wanted);
@@ -707,7 +712,8 @@ describe('an explanation without reads', () => {
         const made = shownIn(language, it => Cnum.showUnreadExplanation(it, value, { picture, printed: async () => '' }));
         const press = label => made.all('button').find(it => it.textContent === label).onclick();
         const key = name => made.all('div').find(it => it.onkeydown).onkeydown({ key: name, preventDefault() {} });
-        return { seen, press, key, slider: made.all('input')[0], text: () => plain(made.textContent), end: () => (Cnum.lightUp = light) };
+        const way = number => Object.assign(made.all('select')[0], { value: number }).onchange();
+        return { seen, press, key, way, slider: made.all('input')[0], text: () => plain(made.textContent), end: () => (Cnum.lightUp = light) };
     }
 
     function shown(value, language) {
@@ -719,10 +725,10 @@ describe('an explanation without reads', () => {
     it('has a witness, and two runs of the adversary', () => {
         const text = shown(QUEUE);
         has(text, 'Why 2: by its responses', 'starts in qa; A: p0 does deq; B: p1 does deq.', 'p0 deq got a got empty p1 deq got empty got a');
-        has(text, 'Why not 3: in each of 24 ways', 'The first of them: start q; A: p0 does enq_a; B: p1 does enq_b, p2 does deq.', 'with different decisions');
+        has(text, 'Why not 3: in each of 24 ways', 'Start q; A: p0 does enq_a; B: p1 does enq_b, p2 does deq.', 'with different decisions');
         has(text, 'A first q p0 enq_a answers ok qa', 'B first q p1 enq_b answers ok qb p2 deq answers b q p0 enq_a answers ok qa');
         has(text, 'p0 (A) enq_a: ok enq_a: ok p1 (B) enq_b: ok p2 (B) deq: b');
-        has(text, 'p0 gets the same in both runs, and the object is in state qa after each. So p0 decides the same in both.');
+        has(text, 'p0 gets the same in both runs, and the object is in state qa after each.', 'So it decides the same in both.');
         has(text, '126 positions', 'for 3 without reads: this is proved.');
         has(shown(QUEUE, 'de'), 'Warum 2: ', 'Warum nicht 3: bei jeder von 24 Weisen', 'p0 bekommt in beiden Läufen dasselbe', 'ohne Lesen: das ist bewiesen');
     });
@@ -754,16 +760,43 @@ describe('an explanation without reads', () => {
     });
 
     it('of runs without an end says so', () => {
-        const endless = { ...QUEUE, refuted: { ...QUEUE.refuted, choices: [{ ...CHOICE, process: null }], count: 1 } };
-        has(shown(endless), 'in the 1 way to choose', 'Start q; A: ', 'go on like this for ever');
+        const endless = { ...QUEUE, refuted: { ...QUEUE.refuted, choices: [{ ...CHOICE, a_first: [], b_first: [], process: null }], count: 1 } };
+        const text = shown(endless);
+        has(text, 'in the 1 way to choose', 'Start q; A: ', 'the adversary can go on for ever');
+        assert.ok(!text.includes('Next') && !text.includes('Which of the ways'));
+    });
+
+    it('has each of the ways that are told', () => {
+        // By hand: p1 gets nothing, and the queue is empty in the end.
+        const other = {
+            a_first: [step(0, 'enq_a', 'ok', 'qa'), step(2, 'deq', 'a', 'q')],
+            b_first: [step(2, 'deq', 'empty', 'q')],
+            process: 1,
+            processes: [{ operation: 'enq_a', team: 'A' }, { operation: 'enq_a', team: 'B' }, { operation: 'deq', team: 'B' }],
+            start: 'q',
+        };
+        const made = place({ ...QUEUE, refuted: { ...QUEUE.refuted, choices: [CHOICE, other] } });
+        has(made.text(), 'Which of the ways: 1 of 24 2 of 24 Start q; A: p0 does enq_a; B: p1 does enq_b, p2 does deq.');
+        made.way(1);
+        has(made.text(), 'Start q; A: p0 does enq_a; B: p1 does enq_a, p2 does deq.', '2 of 2', 'p1 gets nothing in either run, and the object is in state q');
+        assert.deepEqual(made.seen.map(([state]) => state), ['q', 'q']);
+        made.end();
     });
 
     it('tells what processes do next, and states that are one', () => {
         const looked = { ...QUEUE.witness, looks: ['peek'], processes: [of('enq_a', 'A', sight('ok', ['peek', 'a']), sight('ok', ['peek', 'b']))] };
-        has(shown({ ...QUEUE, witness: looked }), 'Then each process does peek, which changes nothing.', 'got ok, then peek: a', 'got ok, then peek: b');
+        has(shown({ ...QUEUE, witness: looked }), 'Then each process does peek, in this order.', 'got ok, then peek: a', 'got ok, then peek: b');
         const followed = { ...QUEUE.witness, follow_ups: [{ further: 'cas21', operation: 'cas02', response: 'no' }] };
         has(shown({ ...QUEUE, witness: followed }), 'After cas02 with no a process does cas21.');
-        has(shown({ ...QUEUE, merged: [{ state: 'qb', class: 'qa' }] }), 'No operations tell qb from qa, so they are one state here.');
+        const merged = [{ state: 'q', class: 'q' }, { state: 'qa', class: 'qa' }, { state: 'qb', class: 'qa' }];
+        const text = shown({ ...QUEUE, merged });
+        has(text, 'No operations tell qb from qa, so they are one state here.');
+        assert.ok(!text.includes('tell qa from qa'));
+    });
+
+    it('of more processes than the witness is for says so', () => {
+        const sticky = { ...QUEUE, refuted: null, telling: 'responses', without_read: 'infinite' };
+        has(shown(sticky), 'Each response tells the state', 'For 2 processes, say:', 'Why 2: ', 'It is so for each number of processes');
     });
 
     it('of no greatest number has signs', () => {

@@ -576,6 +576,9 @@ def unread(use):
     well = use.until("/infinite/.test(document.getElementById('comparison').textContent)", 10) and use.value(CHOSEN) == ["reads"]
     yield "the button leads back, and the comparison follows", well and use.count("#comparison tbody button") == 6, use.text("comparison")
     yield "and so does the link", use.until("location.hash === '#example=catalogue/queue_2'", 5), use.value("location.hash")
+    use.value("document.getElementById('open-why-without').click()")
+    well = use.value("document.activeElement.id === 'why-part'") and use.value(CHOSEN) == ["reads-without"]
+    yield "the question beside a number leads to its reasons", well and use.text("open-why-without") == "Why 2 and not 3?", use.value(CHOSEN)
     use.open("#example=catalogue/deque_2&reads=no&view=pairs")
     yield "a link shows it", use.until("document.querySelectorAll('#comparison tbody button').length === 21"), use.text("comparison")
     use.open("#example=catalogue/queue_2&reads=no")

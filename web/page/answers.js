@@ -34,6 +34,12 @@ var Cnum = globalThis.Cnum || {};
     // reads, of processes that have the operations of the table alone.
     Cnum.sentenceOf = (number, reads) => say(reads ? 'with_reads' : 'without_reads', { can: howManyCan(number) });
 
+    // The question why a number is what it is.
+    Cnum.questionOf = function (number) {
+        if (number === 'infinite') return say('why_any_number');
+        return typeof number === 'object' ? say('why_range') : say('why_this_number', { count: number, more: number + 1 });
+    };
+
     function howManyCan(number) {
         const [count, most] = [Cnum.leastOf(number), Cnum.mostOf(number)];
         if (count === Infinity) return say('can_any');

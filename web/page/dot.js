@@ -52,12 +52,13 @@ var Cnum = globalThis.Cnum || {};
         return { names, arrows: kept.filter(it => it.lines.length) };
     };
 
-    // The same graph with some states as one. Of each { state, class } the class stands for the state, and no operation tells
-    // the two apart.
+    // The same graph with some states as one. Of each { state, class } the class stands for the state, which may be itself, and
+    // no operation tells the two apart.
     Cnum.mergedGraph = function ({ names, arrows }, merged) {
         const classes = new Map(merged.map(it => [it.state, it.class]));
-        const kept = names.filter(it => !classes.has(it));
-        const placeOf = name => kept.indexOf(classes.get(name) || name);
+        const classOf = name => classes.get(name) || name;
+        const kept = names.filter(it => classOf(it) === it);
+        const placeOf = name => kept.indexOf(classOf(name));
         const joined = new Map();
         for (const { from, to, lines } of arrows.filter(it => kept.includes(names[it.from]))) {
             const ends = { from: placeOf(names[from]), to: placeOf(names[to]) };

@@ -32,7 +32,7 @@ var Cnum = globalThis.Cnum || {};
             this.limit = null; // what was chosen for the processes of the protocol, if fewer than the most
             this.comeBack = false; // whether the processes of the protocol crash and come back
             this.reads = true; // whether reasons, comparisons and links are for objects that can be read
-            this.numbers = new Cnum.TwoNumbers(reads => this.chooseReads(reads));
+            this.numbers = new Cnum.TwoNumbers({ choose: reads => this.chooseReads(reads), openWhy: reads => this.openReasons(reads) });
             this.editor = new Cnum.Editor(at('table'), at('marks'), at('flaws'));
             this.grid = new Cnum.Grid(at('grid'), text => this.edit(text));
             this.picture = new Cnum.PictureView(
@@ -366,7 +366,7 @@ var Cnum = globalThis.Cnum || {};
         // Finds the number without reads, in a worker of its own, since that may take long. Shows it, and why, if it is chosen.
         async showUnread() {
             this.numbers.say(false, say('searching'));
-            const answer = await this.askUnread('classify');
+            const answer = await this.askUnread(['classify']);
             if (!answer) return;
             if (answer.status !== 0) {
                 this.numbers.say(false, Cnum.inWords(answer));
@@ -377,8 +377,8 @@ var Cnum = globalThis.Cnum || {};
         }
 
         // What a command tells without reads, as JSON.
-        askUnread(command) {
-            return this.timed(this.ask(this.unread, [command, WITHOUT_READS, '--as', 'json', '-']), at('running-without'));
+        askUnread(words) {
+            return this.timed(this.ask(this.unread, [...words, WITHOUT_READS, '--as', 'json', '-']), at('running-without'));
         }
 
         // Finds the recoverable number, and shows it.
@@ -429,7 +429,7 @@ var Cnum = globalThis.Cnum || {};
         // The same without reads.
         async showUnreadReasons() {
             if (!this.reasons.has(false)) {
-                const why = await this.askUnread('why');
+                const why = await this.askUnread(['why', '--all']);
                 if (!why) return;
                 this.reasons.set(false, why.status === 0 ? JSON.parse(why.stdout) : null);
             }
@@ -455,6 +455,13 @@ var Cnum = globalThis.Cnum || {};
             this.address.keepSoon();
         }
 
+        // Shows the reasons of one of the two numbers where the reader looks.
+        openReasons(reads) {
+            if (reads !== this.reads) this.chooseReads(reads);
+            at('why-part').scrollIntoView();
+            at('why-part').focus();
+        }
+
         // Says for which of the two numbers the parts of the page are, with a button for the other one.
         tellChoice() {
             const { reads } = this;
@@ -463,6 +470,7 @@ var Cnum = globalThis.Cnum || {};
             for (const it of document.querySelectorAll('.of-choice')) {
                 it.firstElementChild.textContent = say(reads ? 'of_readable' : 'of_unread');
                 it.lastElementChild.textContent = say(reads ? 'show_unread' : 'show_readable');
+                it.classList.toggle('unread', !reads);
             }
             at('protocol-of').hidden = reads;
         }

@@ -11,11 +11,15 @@ var Cnum = globalThis.Cnum || {};
     const at = id => document.getElementById(id);
 
     class TwoNumbers {
-        // Shows numbers in their places. `choose` is called when another one is chosen.
-        constructor(choose) {
-            const sideOf = end => ({ count: at(`number${end}`), meaning: at(`meaning${end}`), choice: at(`reads${end}`) });
+        // Shows numbers in their places. `choose` is called when another one is chosen, and `openWhy` when the reasons of
+        // one are asked for.
+        constructor({ choose, openWhy }) {
+            const sideOf = end => ({ count: at(`number${end}`), meaning: at(`meaning${end}`), choice: at(`reads${end}`), why: at(`open-why${end}`) });
             this.sides = new Map([[true, sideOf('')], [false, sideOf('-without')]]);
-            for (const [reads, { choice }] of this.sides) choice.addEventListener('change', () => choose(reads));
+            for (const [reads, { choice, why }] of this.sides) {
+                choice.addEventListener('change', () => choose(reads));
+                why.addEventListener('click', () => openWhy(reads));
+            }
             this.clear('');
         }
 
@@ -44,6 +48,9 @@ var Cnum = globalThis.Cnum || {};
         tell(reads, number) {
             this.numbers.set(reads, number);
             this.show(reads, Cnum.numberText(number), Cnum.sentenceOf(number, reads));
+            const { why } = this.sides.get(reads);
+            why.textContent = Cnum.questionOf(number);
+            why.hidden = false;
         }
 
         // Says something in the place of a number that is not there.
@@ -52,10 +59,11 @@ var Cnum = globalThis.Cnum || {};
         }
 
         show(reads, text, sentence) {
-            const { count, meaning } = this.sides.get(reads);
+            const { count, meaning, why } = this.sides.get(reads);
             count.textContent = text;
             count.classList.toggle('long', text.length > MOST_LARGE);
             meaning.textContent = sentence;
+            why.hidden = true;
         }
     }
 

@@ -13,7 +13,7 @@ var Cnum = globalThis.Cnum || {};
     const moveOf = ({ operation, state }, before) => ({ operation, before, after: state });
 
     class TwoRuns {
-        // Shows the runs of a choice, as `why --without-read` tells it. `picture` gives a picture of the states.
+        // Shows the runs of a choice, as `why --without-read` tells it, in a picture of the states.
         constructor(choice, picture) {
             const columns = [[choice.a_first, 'A'], [choice.b_first, 'B']];
             const pictures = [picture, picture.cloneNode(true)];
@@ -65,7 +65,7 @@ var Cnum = globalThis.Cnum || {};
             });
             const heads = [say('why_process'), ...[1, 2].map(number => say('run_of_two', { number }))];
             this.table = tableOf(heads, rows, { class: 'pairs' });
-            if (doubting !== null) this.table.children[1].children[doubting].classList.add('same');
+            this.table.children[1].children[doubting].classList.add('same');
             return wide(say('got_in_both'), this.table);
         }
 
@@ -85,9 +85,9 @@ var Cnum = globalThis.Cnum || {};
 
         ending() {
             const { process: doubting, a_first: steps, start } = this.choice;
-            if (doubting === null) return say('runs_endless');
             const { state } = steps[steps.length - 1] || { state: start };
-            return say('runs_same', { process: process(doubting), state });
+            const hasMoved = steps.some(it => it.process === doubting);
+            return say(hasMoved ? 'runs_same' : 'runs_nothing', { process: process(doubting), state });
         }
 
         // Shows so many steps of each run. A run that is shorter stays at its end.

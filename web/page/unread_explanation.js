@@ -14,12 +14,14 @@ var Cnum = globalThis.Cnum || {};
         return answers.length ? say('got_then', { response, answers: answers.map(answerOf).join(', ') }) : say('got_response', { response });
     }
 
-    // How each process tells which team was first, by what it gets.
-    function witness({ start, processes, looks, follow_ups: followUps }) {
-        const words = { count: processes.length, start, tasks: tasks(processes) };
+    // How each process tells which team was first, by what it gets. They may be fewer than can agree.
+    function witness({ start, processes, looks, follow_ups: followUps }, least) {
+        const count = processes.length;
+        const words = { count, start, tasks: tasks(processes) };
+        const many = count < least ? [paragraph('why_so_many', { count })] : [];
         const further = followUps.map(it => paragraph('follow_up', it));
         if (looks.length) further.push(paragraph('looks', { looks: looks.join(', ') }));
-        return [head('why_unread', words), ...further, witnessTable(processes, sightText), paragraph('why_unread_end')];
+        return [...many, head('why_unread', words), ...further, witnessTable(processes, sightText), paragraph('why_unread_end')];
     }
 
     // How any number of processes tell it, by the signs of one team.
@@ -30,16 +32,33 @@ var Cnum = globalThis.Cnum || {};
 
     function reasonsForLeast(told) {
         if (told.signs) return signs(told.signs);
-        if (told.witness) return witness(told.witness);
-        return Cnum.leastOf(told.without_read) === 1 ? [paragraph('why_one')] : [];
+        const least = Cnum.leastOf(told.without_read);
+        if (told.witness) return witness(told.witness, least);
+        return least === 1 ? [paragraph('why_one')] : [];
     }
 
-    // Why no protocol does it for so many: of each choice two runs, and those of the first one to step through.
-    function refutation({ processes: count, count: ways, positions, choices: [choice] }, picture) {
-        const title = head(ways === 1 ? 'why_not_unread_one' : 'why_not_unread', { count, ways });
-        if (!choice) return [title];
-        const first = element('p', {}, say(ways === 1 ? 'collision_of' : 'first_way', { start: choice.start, tasks: tasks(choice.processes) }));
-        return [title, first, ...Cnum.twoRuns(choice, picture(choice)), paragraph('runs_positions', { positions })];
+    // A choice with its two runs, to step through. There may be none that end.
+    function way(choice, picture) {
+        const about = paragraph('collision_of', { start: choice.start, tasks: tasks(choice.processes) });
+        return [about, ...(choice.process === null ? [paragraph('runs_endless')] : Cnum.twoRuns(choice, picture(choice)))];
+    }
+
+    // Why no protocol does it for so many: of each way to choose a start state, operations and teams two runs. Those that are
+    // told can be chosen.
+    function refutation({ processes: count, count: ways, positions, choices }, picture) {
+        const shown = element('div');
+        const show = choice => shown.replaceChildren(...way(choice, picture));
+        const numbers = choices.map((_, index) => element('option', { value: index }, say('way_of', { number: index + 1, ways })));
+        const select = element('select', { id: 'way' }, ...numbers);
+        select.addEventListener('change', () => show(choices[select.value]));
+        const selection = element('p', {}, element('label', { for: 'way' }, say('way')), ' ', select);
+        if (choices.length) show(choices[0]);
+        return [
+            head(ways === 1 ? 'why_not_unread_one' : 'why_not_unread', { count, ways }),
+            ...(choices.length > 1 ? [selection] : []),
+            shown,
+            paragraph('runs_positions', { positions }),
+        ];
     }
 
     // Why no more can: by two runs, since not even more can that read, or since there is no upper bound.
@@ -67,7 +86,7 @@ var Cnum = globalThis.Cnum || {};
         }
         const { parts = [], end } = reasonsForMost(told, picture);
         place.replaceChildren(
-            ...told.merged.map(it => paragraph('merged_states', it)),
+            ...told.merged.filter(it => it.state !== it.class).map(it => paragraph('merged_states', it)),
             ...(told.telling ? [paragraph(`telling_${told.telling}`)] : []),
             ...reasonsForLeast(told),
             ...parts,
