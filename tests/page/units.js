@@ -729,7 +729,7 @@ describe('an explanation without reads', () => {
         has(text, 'A first q p0 enq_a answers ok qa', 'B first q p1 enq_b answers ok qb p2 deq answers b q p0 enq_a answers ok qa');
         has(text, 'p0 (A) enq_a: ok enq_a: ok p1 (B) enq_b: ok p2 (B) deq: b');
         has(text, 'p0 gets the same in both runs, and the object is in state qa after each.', 'So it decides the same in both.');
-        has(text, '126 positions', 'for 3 without reads: this is proved.');
+        has(text, '126 positions', 'count as one. Ways in which an operation leaves the start state unchanged', 'for 3 without reads: this is proved.');
         has(shown(QUEUE, 'de'), 'Warum 2: ', 'Warum nicht 3: bei jeder von 24 Weisen', 'p0 bekommt in beiden Läufen dasselbe', 'ohne Lesen: das ist bewiesen');
     });
 
@@ -815,6 +815,12 @@ describe('an explanation without reads', () => {
         has(shown({ ...QUEUE, refuted: null, without_read: { at_least: 2 } }), 'No upper bound was found. What is known of the number: at least 2, no upper bound found.');
         const range = shown({ ...QUEUE, refuted: { ...QUEUE.refuted, processes: 4 }, without_read: { at_least: 1, at_most: 3 }, witness: null });
         has(range, 'One process alone', 'Why not 4: ', 'for 4 without reads: this is proved. What is known of the number: at least 1, at most 3, not decided.');
+    });
+
+    // The values that the schema permits, once there is one.
+    const VALUES = path.join(WEB, '../tests/texts/schemas/unread_explanation.json');
+    it('is there for each kind of value', { skip: !fs.existsSync(VALUES) }, () => {
+        for (const value of JSON.parse(fs.readFileSync(VALUES, 'utf8')).right) has(shown(value), 'As the program prints it');
     });
 
     it('that the program does not give is none', () => assert.equal(shown(null), 'No reasons are shown for this number.'));

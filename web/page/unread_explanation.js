@@ -68,7 +68,7 @@ var Cnum = globalThis.Cnum || {};
         const count = Cnum.mostOf(number) + 1;
         if (count === Infinity) return { end: say('no_bound_found') };
         const end = say('why_proved_unread', { count });
-        if (told.refuted) return { parts: refutation(told.refuted, picture), end };
+        if (told.refuted) return { parts: refutation(told.refuted, picture), end: [say('why_same_ways'), say('why_left_out'), end].join(' ') };
         return { parts: [head('why_not_read', { count }), ...(told.rule ? [paragraph(`rule_${told.rule}`)] : [])], end };
     }
 
