@@ -353,7 +353,7 @@ var Cnum = globalThis.Cnum || {};
         // Finds the number, and shows it, and then the evidence.
         async showNumber(linked) {
             this.numbers.say(true, say('searching'));
-            this.showUnread();
+            const unread = this.showUnread();
             const classify = await this.found(['classify', '--as', 'json', '-']);
             if (!classify) return;
             this.numbers.tell(true, JSON.parse(classify.stdout).number);
@@ -361,6 +361,7 @@ var Cnum = globalThis.Cnum || {};
             if (hasEvidence && !this.comeBack) await this.showProtocol(linked);
             const recoverable = await this.showRecoverable();
             if (recoverable && this.comeBack) await this.showLives(linked, recoverable);
+            if (!this.reads) await unread;
         }
 
         // Finds the number without reads, in a worker of its own, since that may take long. Shows it, and why, if it is chosen.
