@@ -708,6 +708,7 @@ describe('an explanation without reads', () => {
         const seen = [];
         const light = Cnum.lightUp;
         Cnum.lightUp = (picture, state, move) => (seen[picture.number] = [state, move]);
+        Cnum.reveal = () => {};
         const picture = () => Object.assign(new FakeElement('svg'), { number: 0, cloneNode: () => Object.assign(new FakeElement('svg'), { number: 1 }) });
         const made = shownIn(language, it => Cnum.showUnreadExplanation(it, value, { picture, printed: async () => '' }));
         const press = label => made.all('button').find(it => it.textContent === label).onclick();

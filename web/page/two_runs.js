@@ -35,6 +35,7 @@ var Cnum = globalThis.Cnum || {};
             this.whole.addEventListener('keydown', event => this.key(event));
             this.moveTo(this.length);
             this.said.textContent = '';
+            queueMicrotask(() => this.reveal()); // once it is on the page
         }
 
         controls() {
@@ -98,6 +99,7 @@ var Cnum = globalThis.Cnum || {};
             this.end.classList.toggle('later', !isAtEnd);
             this.table.classList.toggle('ended', isAtEnd);
             this.runs.forEach(it => this.light(it));
+            this.reveal();
             this.slider.value = this.position;
             this.count.textContent = say('run_count', { count: this.position, whole: this.length });
             this.backButton.disabled = this.position === 0;
@@ -112,6 +114,11 @@ var Cnum = globalThis.Cnum || {};
             const states = [start, ...taken.map(it => it.state)];
             const last = taken[taken.length - 1];
             Cnum.lightUp(picture, states[states.length - 1], last && moveOf(last, states[states.length - 2]));
+        }
+
+        // Scrolls the pictures to the states that are lit.
+        reveal() {
+            for (const { picture } of this.runs) Cnum.reveal(picture.parentElement, '.node.lit');
         }
 
         // The steps that came last, in words.
