@@ -1,2 +1,3 @@
 pub mod Known
+pub mod PlayedTraps
 pub mod Plays
