@@ -5,6 +5,8 @@ use Rattle.cn_choice.specs.declared.limits.TheConstants.{MOST_PROCESSES}
 use Rattle.cn_reasons.specs.Known.{IsKnownChoice, IsKnownState, IsKnownStep}
 use Rattle.cn_unread_reasons.specs.declared.play.Play.{Play}
 use Rattle.cn_unread_reasons.specs.declared.play.PlayEnd.{PlayEnd}
+use Rattle.cn_unread_reasons.specs.declared.sight.Answer.{Answer}
+use Rattle.cn_unread_reasons.specs.declared.sight.UnreadSight.{UnreadSight}
 use Rattle.cn_unread_reasons.specs.declared.trap.PlayedTrap.{PlayedTrap}
 
 pub record IsKnownEnd (t : TypeTable) (e : PlayEnd) : Type 0 where
@@ -23,3 +25,11 @@ pub record IsKnownTrap (t : TypeTable) (p : PlayedTrap) : Type 0 where
   pub few : p.processes ≤ MOST_PROCESSES
   pub plays : All (IsKnownPlay t) p.plays.items
   pub count : p.count ≡ length p.plays.items + p.more
+
+pub record IsKnownAnswer (t : TypeTable) (a : Answer) : Type 0 where
+  pub operation : a.operation.0 < length t.operations
+  pub response : a.response.0 < length t.responses
+
+pub record IsKnownUnreadSight (t : TypeTable) (s : UnreadSight) : Type 0 where
+  pub response : s.response.0 < length t.responses
+  pub answers : All (IsKnownAnswer t) s.answers.items
