@@ -99,7 +99,7 @@ trap_line positions =
 unfoldable pub trap_plays : TypeTable → PlayedTrap → List ℕ
 trap_plays t p =
     codes "Why not " ++ (decimal p.processes ++ (codes ": "
-    ++ (ways_words (codes "an adversary hides which team was first") p.count
+    ++ (ways_words (codes "an adversary wins") p.count
     ++ (numbered (play_text t) 0 p.plays.items ++ []))))
 
 unfoldable pub trap_text : TypeTable → PlayedTrap → List ℕ

@@ -202,7 +202,7 @@ fn push_trap_plays(text: &mut String, table: &Table, trap: &PlayedTrap) -> Resul
         ≡ string_bytes text.old ++ trap_plays table.now trap.now) }
 {
     write!(text, "Why not {}: ", trap.processes)?;
-    push_ways_words(text, "an adversary hides which team was first", trap.count)?;
+    push_ways_words(text, "an adversary wins", trap.count)?;
     push_plays(text, table, trap.plays.as_slice())
 }
 
