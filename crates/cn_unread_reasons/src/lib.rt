@@ -9,17 +9,22 @@
 //! nothing.
 #![tactic(auto)]
 
+mod explanation;
+mod low;
 mod merged;
 mod moves;
 mod play;
 mod runs;
 mod search;
 mod sight;
+mod signs;
 mod trap;
 mod witness;
 
+pub use explanation::{MostReason, UnreadExplanation};
 pub use merged::MergedState;
 pub use play::{Play, PlayEnd};
 pub use sight::{Answer, UnreadSight};
+pub use signs::SignWitness;
 pub use trap::PlayedTrap;
 pub use witness::{UnreadView, UnreadWitness};

@@ -1,5 +1,6 @@
 //! States that are one without reads.
 ghost use Rattle.std.specs.Prelude.{◌≡◌, ◌<◌, ◌≤◌, IfOk, length};
+ghost use Rattle.cn_table.specs.declared.limits.TheConstants.{MOST_STATES};
 ghost use Rattle.cn_unread_reasons.specs.MergedStates.{merged_states, stands_before};
 
 use cn_table::State;
@@ -26,7 +27,7 @@ fn stands_before(class_of: &[u8], state: u8) -> bool
 
 /// The states that are not the first of their class, in order, each with its class.
 pub(crate) fn merged_states(alloc: Global, class_of: &[u8]) -> Result<Vec<MergedState>, AllocError>
-    requires { length class_of.now ≤ 16 }
+    requires { length class_of.now ≤ MOST_STATES }
     ensures { IfOk result (λ merged. merged.items ≡ merged_states class_of.now) }
 {
     let mut merged = Vec::new(alloc);
