@@ -16,7 +16,8 @@ pub returns : goal.returns
 returns c = (
   refl,
   (
-    c.requires,
+    c.requires.recoverable,
+    c.requires.with_reads,
     no_word c.word.result _ c.is_some.result c.word.ensures c.is_some.ensures c.if-is_some.false,
     flag_read (found_of c.args.words.now) (codes "all") c.get_flag-all.result c.get_flag-all.ensures.none c.get_flag-all.ensures.value c.get_flag-all.ensures.other,
     c.in_ok-form.ensures,
