@@ -103,8 +103,8 @@ fn groups_of(choice: &Choice) -> ChoiceGroups
     }
 }
 
-/// The same for a choice of the table.
-pub(crate) fn choice_groups(table: &Table, choice: &Choice) -> ChoiceGroups
+/// A choice of the table, with its processes in groups.
+pub fn choice_groups(table: &Table, choice: &Choice) -> ChoiceGroups
     requires { FitsTable table.now choice.now }
     ensures groups { result ≡ choice_groups choice.now }
     ensures known { IsKnownChoice table.now result }

@@ -35,7 +35,7 @@ mod way;
 mod witness;
 
 pub use explanation::Explanation;
-pub use group::{ChoiceGroups, Group};
+pub use group::{ChoiceGroups, Group, choice_groups};
 pub use lasting::LastingWitness;
 pub use numbers::TypeNumber;
 pub use reason::Reason;
