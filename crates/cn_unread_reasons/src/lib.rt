@@ -11,7 +11,10 @@
 
 mod explanation;
 mod merged;
+mod moves;
 mod play;
+mod runs;
+mod search;
 mod sight;
 mod signs;
 mod trap;
