@@ -1,12 +1,8 @@
-use Rattle.std.proofs.Common.{◌≡◌, Bool, true, MatchBool, codes, refl, subst}
+use Rattle.std.proofs.Common.{codes, refl}
 use Rattle.clap.specs.Matches.{found_of}
 use Rattle.cn_words.specs.GivenCommands.{rows_in}
 use Rattle.cn_words.proofs.GivenLemmas.{flag_read, no_word, wants}
 use Rattle.cn_words.proofs.commands.why_recoverable.Goals as goal
-
--- what holds where the flag is set
-set : (A B : Type 0) (b : Bool) → b ≡ true → MatchBool b A B → A
-set A B b e h = subst (λ d. MatchBool d A B) e h
 
 pub returns-in_err-form : goal.returns-in_err-form
 returns-in_err-form c = rw c.from_residual.ensures (λ command is.
