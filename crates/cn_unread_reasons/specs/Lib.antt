@@ -1,2 +1,4 @@
 pub mod Known
+pub mod PlayedTraps
 pub mod Plays
+pub mod UnreadSights
