@@ -1,7 +1,7 @@
 //! Why the number of a type without reads is what it is, as JSON.
 ghost use Rattle.std.specs.Prelude.{◌≡◌, All, IfOk, codes, string_bytes};
 ghost use Rattle.serde_json.specs.Written.{compact_text};
-ghost use Rattle.cn_unread_reasons.specs.Known.{IsKnownMerged, IsKnownPlay, IsKnownReason, IsKnownTrap, IsUnreadExplanation};
+ghost use Rattle.cn_unread_reasons.specs.Known.{IsKnownMerged, IsKnownPlay, IsKnownMost, IsKnownTrap, IsUnreadExplanation};
 ghost use Rattle.cn_json.specs.Tokens.{Appends, list_rest, member_tokens, value_tokens};
 ghost use Rattle.cn_json.specs.Unread.{end_data, is_with_reads, merged_data, play_data, reason_data, rule_of, telling_data, trap_data, unread_explanation_data};
 ghost use Rattle.cn_json.specs.Values.{list_data, option_data, primitive_data};
@@ -108,7 +108,7 @@ fn write_merged(
 
 /// Writes the choices that are refuted, or null.
 fn write_refuted(out: &mut JsonText, table: &Table, most: &MostReason) -> Result<(), AllocError>
-    requires { IsKnownReason table.now most.now }
+    requires { IsKnownMost table.now most.now }
     ensures { Appends result out.old out.new
         (member_tokens (codes "refuted") (reason_data table.now most.now)) }
 {
@@ -172,8 +172,8 @@ fn write_explanation(out: &mut JsonText, explanation: &UnreadExplanation) -> Res
 
 /// Why the number of a type without reads is what it is, as one compact JSON object:
 ///
-/// - `merged`: the states that are one, if some are: each `state` of the given table, in order, and
-///   its `class`, a state of the table of which all else speaks;
+/// - `merged`: each `state` of the given table for which another one stands, in order, and its
+///   `class`, the state of the merged table that stands for it. All else speaks of that table;
 /// - `name`: the name of the type;
 /// - `refuted`: `null`, or the `choices` for so many `processes` that are told, the `count` of all,
 ///   and the number of `positions` of the trap. A choice has its `processes`, in order, with their

@@ -2,7 +2,7 @@
 use Rattle.std.specs.Prelude.{◌≡◌, ◌++◌, ℕ, List, codes, Bool, Result, Ok, Err, string_bytes}
 use Rattle.serde_json.specs.Written.{compact_text}
 use Rattle.cn_table.specs.TypeTable.{TypeTable}
-use Rattle.cn_unread_reasons.specs.Explanation.{ExplainsUnread}
+use Rattle.cn_unread_reasons.specs.UnreadExplanations.{ExplainsUnread}
 use Rattle.cn_markdown.specs.Unread.{unread_markdown}
 use Rattle.cn_text.specs.Unread.{unread_text}
 use Rattle.cn_unread_reasons.specs.declared.explanation.UnreadExplanation.{UnreadExplanation}
