@@ -1,4 +1,4 @@
-"""Rules that give the number of a type, and its recoverable number, from its table alone, without a search.
+"""Rules that give the number of a type, its recoverable number and that without reads, from its table alone, without a search.
 
 They share nothing with the program: they are here so that the numbers in `expected` stand on more than
 one leg. Each is said in README.md, under "Rules that give a number", with its reason or its law.
@@ -108,6 +108,23 @@ def recoverable_number(a_type):
     return None if any(state_tells(*start) for start in a_type.starts()) else 1
 
 
+def answers_nothing(a_type):
+    """True where each operation has one response in all states."""
+    return all(len({response for response, _ in row}) == 1 for row in a_type.rows)
+
+
+def responses_tell_states(a_type):
+    """True where an operation that gets one response in two states leads from them to one state."""
+    return all(len({*row}) == len({response for response, _ in row}) for row in a_type.rows)
+
+
+def number_without_reads(a_type, number):
+    """The number without reads by the rules, for a type with this number; None where they do not say."""
+    if answers_nothing(a_type):
+        return 1
+    return number if responses_tell_states(a_type) else None
+
+
 def go_together(number, recoverable):
     """True where a type can have these two numbers: the second is at most the first, and from 4 on at least the first less 2; so
     both are infinite or none is."""
@@ -118,6 +135,11 @@ def go_together(number, recoverable):
 def is_within_states(a_type, number):
     """True where a type with so many states can have this number: a finite number is at most 2, or at most the number of states."""
     return number == "infinite" or number <= max(2, len(a_type.states))
+
+
+def is_at_most(number, other):
+    """True where a number is at most another one."""
+    return other == "infinite" or number != "infinite" and number <= other
 
 
 def faults(a_type, pair):
@@ -131,3 +153,12 @@ def faults(a_type, pair):
         yield f"no type with {len(a_type.states)} states has number {pair[0]}"
     if one_against_many(a_type) != operations_last(a_type):
         yield "responses tell one from many where the state does not"
+
+
+def faults_without_reads(a_type, number, without_reads):
+    """What the rules say against a number without reads of a type with this number: one of them gives each that is 1."""
+    by_rule = number_without_reads(a_type, number)
+    if by_rule != without_reads and (by_rule or without_reads == 1):
+        yield f"the rules give {by_rule} without reads, and not {without_reads}"
+    if not is_at_most(without_reads, number):
+        yield f"no type with number {number} has {without_reads} without reads"

@@ -212,12 +212,12 @@ Cnum.examples = [
    },
    {
     "path": "catalogue/assign_2",
-    "about": "2: assignment to m registers has 2m-2, for m from 2 on (Herlihy 1991). After both have moved, the common register is that of the later one. Of three, two do the same operation. In two teams nobody sees their order. In one team the second hides whether the first had moved before the third.",
+    "about": "2: assignment to m registers has 2m-2, for m from 2 on (Herlihy 1991). After both have moved, the common register is that of the later one. Of three, two do the same operation. In two teams nobody sees their order. In one team the second hides whether the first had moved before the third. Without a read nothing is answered; the literature's registers are read, and one by one that is enough for 2.",
     "text": "# Three registers; each of two operations writes its own and the common one at once.\n# Assignment to 2 registers: Herlihy 1991.\nname = \"assign_2\"\nstates = [\"00n\", \"100\", \"011\", \"111\", \"110\"]\nresponses = [\"ok\"]\n[[operation]]\nname = \"assign_p\"\nresponse = [\"ok\", \"ok\", \"ok\", \"ok\", \"ok\"]\nnext = [\"100\", \"100\", \"110\", \"110\", \"110\"]\n[[operation]]\nname = \"assign_q\"\nresponse = [\"ok\", \"ok\", \"ok\", \"ok\", \"ok\"]\nnext = [\"011\", \"111\", \"011\", \"111\", \"111\"]\n"
    },
    {
     "path": "catalogue/memory_swap_3",
-    "about": "Infinite for a memory that has a cell for each process (Herlihy 1991). Here three bits are all there is. From 001 two can tell by where the 1 went. For three, one operation at least changes nothing (two bits are equal), or two processes do the same. In one team the second undoes the first. In two teams nobody sees their order. With more cells: memory_swap_own.",
+    "about": "Infinite for a memory that has a cell for each process (Herlihy 1991). Here three bits are all there is. From 001 two can tell by where the 1 went. For three, one operation at least changes nothing (two bits are equal), or two processes do the same. In one team the second undoes the first. In two teams nobody sees their order. With more cells: memory_swap_own. Without a read nothing is answered; the literature's memory is read.",
     "text": "# Three bits of a memory, of which two change places.\n# Memory-to-memory swap: Herlihy 1991.\nname = \"memory_swap_3\"\nstates = [\"m000\", \"m001\", \"m010\", \"m011\", \"m100\", \"m101\", \"m110\", \"m111\"]\nresponses = [\"ok\"]\n[[operation]]\nname = \"swap_0_1\"\nresponse = [\"ok\", \"ok\", \"ok\", \"ok\", \"ok\", \"ok\", \"ok\", \"ok\"]\nnext = [\"m000\", \"m001\", \"m100\", \"m101\", \"m010\", \"m011\", \"m110\", \"m111\"]\n[[operation]]\nname = \"swap_1_2\"\nresponse = [\"ok\", \"ok\", \"ok\", \"ok\", \"ok\", \"ok\", \"ok\", \"ok\"]\nnext = [\"m000\", \"m010\", \"m001\", \"m011\", \"m100\", \"m110\", \"m101\", \"m111\"]\n[[operation]]\nname = \"swap_0_2\"\nresponse = [\"ok\", \"ok\", \"ok\", \"ok\", \"ok\", \"ok\", \"ok\", \"ok\"]\nnext = [\"m000\", \"m100\", \"m010\", \"m110\", \"m001\", \"m101\", \"m011\", \"m111\"]\n"
    },
    {
@@ -242,7 +242,7 @@ Cnum.examples = [
   "types": [
    {
     "path": "catalogue/cas_3_bool",
-    "about": "Infinite (Herlihy 1991). From 0, cas01 and cas02: the first call decides the value, which then stays.",
+    "about": "Infinite, for one that answers the old value (cas_3) (Herlihy 1991). From 0, cas01 and cas02: the first call decides the value, which then stays. Without a read, yes and no alone are enough for three, and no more: from 0 one does cas01 and two do cas02; who of these two is answered no, does cas21, and is answered yes exactly if the other was first.",
     "text": "# Compare-and-swap on 3 values that answers only whether it swapped.\n# Herlihy 1991.\nname = \"cas_3_bool\"\nstates = [\"0\", \"1\", \"2\"]\nresponses = [\"yes\", \"no\"]\n[[operation]]\nname = \"cas01\"\nresponse = [\"yes\", \"no\", \"no\"]\nnext = [\"1\", \"1\", \"2\"]\n[[operation]]\nname = \"cas02\"\nresponse = [\"yes\", \"no\", \"no\"]\nnext = [\"2\", \"1\", \"2\"]\n[[operation]]\nname = \"cas10\"\nresponse = [\"no\", \"yes\", \"no\"]\nnext = [\"0\", \"0\", \"2\"]\n[[operation]]\nname = \"cas12\"\nresponse = [\"no\", \"yes\", \"no\"]\nnext = [\"0\", \"2\", \"2\"]\n[[operation]]\nname = \"cas20\"\nresponse = [\"no\", \"no\", \"yes\"]\nnext = [\"0\", \"1\", \"0\"]\n[[operation]]\nname = \"cas21\"\nresponse = [\"no\", \"no\", \"yes\"]\nnext = [\"0\", \"1\", \"1\"]\n"
    },
    {
@@ -262,17 +262,17 @@ Cnum.examples = [
    },
    {
     "path": "catalogue/ll_sc_2",
-    "about": "Infinite (Herlihy 1993). From a state with one link set: the first store-conditional succeeds and takes the links away, so its value stays.",
+    "about": "Infinite (Herlihy 1993). From a state with one link set: the first store-conditional succeeds and takes the links away, so its value stays. Everybody may use the operations of both processes, also without a read: a look is a load-linked.",
     "text": "# Load-linked and store-conditional on one bit for two processes, whose links are part of the state.\n# Herlihy 1993.\nname = \"ll_sc_2\"\nstates = [\"v0l00\", \"v0l01\", \"v0l10\", \"v0l11\", \"v1l00\", \"v1l01\", \"v1l10\", \"v1l11\"]\nresponses = [\"v0\", \"v1\", \"no\", \"yes\"]\n[[operation]]\nname = \"ll0\"\nresponse = [\"v0\", \"v0\", \"v0\", \"v0\", \"v1\", \"v1\", \"v1\", \"v1\"]\nnext = [\"v0l01\", \"v0l01\", \"v0l11\", \"v0l11\", \"v1l01\", \"v1l01\", \"v1l11\", \"v1l11\"]\n[[operation]]\nname = \"ll1\"\nresponse = [\"v0\", \"v0\", \"v0\", \"v0\", \"v1\", \"v1\", \"v1\", \"v1\"]\nnext = [\"v0l10\", \"v0l11\", \"v0l10\", \"v0l11\", \"v1l10\", \"v1l11\", \"v1l10\", \"v1l11\"]\n[[operation]]\nname = \"sc0_0\"\nresponse = [\"no\", \"yes\", \"no\", \"yes\", \"no\", \"yes\", \"no\", \"yes\"]\nnext = [\"v0l00\", \"v0l00\", \"v0l10\", \"v0l00\", \"v1l00\", \"v0l00\", \"v1l10\", \"v0l00\"]\n[[operation]]\nname = \"sc0_1\"\nresponse = [\"no\", \"yes\", \"no\", \"yes\", \"no\", \"yes\", \"no\", \"yes\"]\nnext = [\"v0l00\", \"v1l00\", \"v0l10\", \"v1l00\", \"v1l00\", \"v1l00\", \"v1l10\", \"v1l00\"]\n[[operation]]\nname = \"sc1_0\"\nresponse = [\"no\", \"no\", \"yes\", \"yes\", \"no\", \"no\", \"yes\", \"yes\"]\nnext = [\"v0l00\", \"v0l01\", \"v0l00\", \"v0l00\", \"v1l00\", \"v1l01\", \"v0l00\", \"v0l00\"]\n[[operation]]\nname = \"sc1_1\"\nresponse = [\"no\", \"no\", \"yes\", \"yes\", \"no\", \"no\", \"yes\", \"yes\"]\nnext = [\"v0l00\", \"v0l01\", \"v1l00\", \"v1l00\", \"v1l00\", \"v1l01\", \"v1l00\", \"v1l00\"]\n"
    },
    {
     "path": "catalogue/consensus_3_keeps",
-    "about": "3, by its making, for an object that cannot be read. The winner stays to be read after the third call: for readers it is a sticky bit. To have 3 it must forget: shot_3.",
+    "about": "3, by its making, for an object that cannot be read. The winner stays to be read after the third call: for readers it is a sticky bit. To have 3 with reads it must forget: shot_3.",
     "text": "# Answers three calls with the letter of the first, then nothing, but goes on holding it.\n# An agreement object for three processes, as folklore has it.\nname = \"consensus_3_keeps\"\nstates = [\"bot\", \"a1\", \"b1\", \"a2\", \"b2\", \"a3\", \"b3\"]\nresponses = [\"a\", \"b\", \"none\"]\n[[operation]]\nname = \"propose_a\"\nresponse = [\"a\", \"a\", \"b\", \"a\", \"b\", \"none\", \"none\"]\nnext = [\"a1\", \"a2\", \"b2\", \"a3\", \"b3\", \"a3\", \"b3\"]\n[[operation]]\nname = \"propose_b\"\nresponse = [\"b\", \"a\", \"b\", \"a\", \"b\", \"none\", \"none\"]\nnext = [\"b1\", \"a2\", \"b2\", \"a3\", \"b3\", \"a3\", \"b3\"]\n"
    },
    {
     "path": "catalogue/queue_1",
-    "about": "2 for the queue, infinite for the augmented queue, which shows its oldest item (Herlihy 1991). A reader sees the oldest item, that of the first who put one in: readable, it is the augmented queue.",
+    "about": "2 for the queue, infinite for the augmented queue, which shows its oldest item (Herlihy 1991). A reader sees the oldest item, that of the first who put one in: readable, it is the augmented queue. Without a read, only who takes an item sees it.",
     "text": "# A queue of two letters with room for 1, whose whole content can be read.\n# Queue and augmented queue: Herlihy 1991.\nname = \"queue_1\"\nstates = [\"q\", \"qa\", \"qb\"]\nresponses = [\"ok\", \"full\", \"empty\", \"a\", \"b\"]\n[[operation]]\nname = \"enq_a\"\nresponse = [\"ok\", \"full\", \"full\"]\nnext = [\"qa\", \"qa\", \"qb\"]\n[[operation]]\nname = \"enq_b\"\nresponse = [\"ok\", \"full\", \"full\"]\nnext = [\"qb\", \"qa\", \"qb\"]\n[[operation]]\nname = \"deq\"\nresponse = [\"empty\", \"a\", \"b\"]\nnext = [\"q\", \"q\", \"q\"]\n"
    },
    {
@@ -292,7 +292,7 @@ Cnum.examples = [
    },
    {
     "path": "catalogue/stack_2",
-    "about": "2 for the stack (Herlihy 1991). The literature's stack cannot be read; here a reader sees the lowest item, that of the first who put one in.",
+    "about": "2 for the stack (Herlihy 1991). A reader sees the lowest item, that of the first who put one in. Without a read it is the literature's stack.",
     "text": "# A stack of two letters with room for 2, whose whole content can be read.\n# Stack: Herlihy 1991.\nname = \"stack_2\"\nstates = [\"q\", \"qa\", \"qb\", \"qaa\", \"qab\", \"qba\", \"qbb\"]\nresponses = [\"ok\", \"full\", \"empty\", \"a\", \"b\"]\n[[operation]]\nname = \"push_a\"\nresponse = [\"ok\", \"ok\", \"ok\", \"full\", \"full\", \"full\", \"full\"]\nnext = [\"qa\", \"qaa\", \"qba\", \"qaa\", \"qab\", \"qba\", \"qbb\"]\n[[operation]]\nname = \"push_b\"\nresponse = [\"ok\", \"ok\", \"ok\", \"full\", \"full\", \"full\", \"full\"]\nnext = [\"qb\", \"qab\", \"qbb\", \"qaa\", \"qab\", \"qba\", \"qbb\"]\n[[operation]]\nname = \"pop\"\nresponse = [\"empty\", \"a\", \"b\", \"a\", \"b\", \"a\", \"b\"]\nnext = [\"q\", \"q\", \"q\", \"qa\", \"qa\", \"qb\", \"qb\"]\n"
    },
    {
@@ -302,12 +302,12 @@ Cnum.examples = [
    },
    {
     "path": "catalogue/deque_2",
-    "about": "At least 2 for a deque that cannot be read, since it is a queue (Herlihy 1991). As with the queue: all put in at one end, what does not fit is refused, and a reader sees the first item at the other end.",
+    "about": "At least 2 for a deque that cannot be read, since it is a queue (Herlihy 1991). As with the queue: all put in at one end, what does not fit is refused, and a reader sees the first item at the other end. We know of no source that has the 2 without a read.",
     "text": "# A queue of two letters with two ends, to put in and to take out at each, with room for 2, whose whole content can be read.\n# Queue: Herlihy 1991.\nname = \"deque_2\"\nstates = [\"q\", \"qa\", \"qb\", \"qaa\", \"qba\", \"qab\", \"qbb\"]\nresponses = [\"ok\", \"full\", \"empty\", \"a\", \"b\"]\n[[operation]]\nname = \"push_front_a\"\nresponse = [\"ok\", \"ok\", \"ok\", \"full\", \"full\", \"full\", \"full\"]\nnext = [\"qa\", \"qaa\", \"qab\", \"qaa\", \"qba\", \"qab\", \"qbb\"]\n[[operation]]\nname = \"push_front_b\"\nresponse = [\"ok\", \"ok\", \"ok\", \"full\", \"full\", \"full\", \"full\"]\nnext = [\"qb\", \"qba\", \"qbb\", \"qaa\", \"qba\", \"qab\", \"qbb\"]\n[[operation]]\nname = \"push_back_a\"\nresponse = [\"ok\", \"ok\", \"ok\", \"full\", \"full\", \"full\", \"full\"]\nnext = [\"qa\", \"qaa\", \"qba\", \"qaa\", \"qba\", \"qab\", \"qbb\"]\n[[operation]]\nname = \"push_back_b\"\nresponse = [\"ok\", \"ok\", \"ok\", \"full\", \"full\", \"full\", \"full\"]\nnext = [\"qb\", \"qab\", \"qbb\", \"qaa\", \"qba\", \"qab\", \"qbb\"]\n[[operation]]\nname = \"pop_front\"\nresponse = [\"empty\", \"a\", \"b\", \"a\", \"b\", \"a\", \"b\"]\nnext = [\"q\", \"q\", \"q\", \"qa\", \"qa\", \"qb\", \"qb\"]\n[[operation]]\nname = \"pop_back\"\nresponse = [\"empty\", \"a\", \"b\", \"a\", \"a\", \"b\", \"b\"]\nnext = [\"q\", \"q\", \"q\", \"qa\", \"qb\", \"qa\", \"qb\"]\n"
    },
    {
     "path": "catalogue/priority_queue_2",
-    "about": "At least 2 for priority queues (Herlihy 1991). The literature's cannot be read. From the state that holds key 1 alone, one delmin against any number of insert0: key 1 is gone for good exactly where delmin was first.",
+    "about": "At least 2 for priority queues (Herlihy 1991). From the state that holds key 1 alone, one delmin against any number of insert0: key 1 is gone for good exactly where delmin was first. The literature's cannot be read; we know of no source that has the 2 for it.",
     "text": "# A priority queue of 2 keys, each in it at most once, whose whole content can be read.\n# Priority queues: Herlihy 1991.\nname = \"priority_queue_2\"\nstates = [\"b00\", \"b01\", \"b10\", \"b11\"]\nresponses = [\"ok\", \"empty\", \"0\", \"1\"]\n[[operation]]\nname = \"insert0\"\nresponse = [\"ok\", \"ok\", \"ok\", \"ok\"]\nnext = [\"b01\", \"b01\", \"b11\", \"b11\"]\n[[operation]]\nname = \"insert1\"\nresponse = [\"ok\", \"ok\", \"ok\", \"ok\"]\nnext = [\"b10\", \"b11\", \"b10\", \"b11\"]\n[[operation]]\nname = \"delmin\"\nresponse = [\"empty\", \"0\", \"1\", \"0\"]\nnext = [\"b00\", \"b00\", \"b00\", \"b10\"]\n"
    },
    {
@@ -332,12 +332,12 @@ Cnum.examples = [
    },
    {
     "path": "catalogue/dec_mul",
-    "about": "Infinite for the two operations together (Ellen, Gelashvili, Shavit and Zhu 2016). Each operation alone has 1. From 1, one dec against any number of mul: the word is 0 for good where dec was first, else it stays positive.",
+    "about": "Infinite for the two operations together (Ellen, Gelashvili, Shavit and Zhu 2016). Each operation alone has 1. From 1, one dec against any number of mul: the word is 0 for good where dec was first, else it stays positive. Without a read nothing is answered; the literature's memory is read.",
     "text": "# One word from -1 to 4 that starts at 1: one is taken away, or it is multiplied by 4; both answer nothing.\n# Ellen, Gelashvili, Shavit and Zhu 2016.\nname = \"dec_mul\"\nstates = [\"1\", \"0\", \"4\", \"m1\", \"3\", \"2\"]\nresponses = [\"ok\"]\n[[operation]]\nname = \"dec\"\nresponse = [\"ok\", \"ok\", \"ok\", \"ok\", \"ok\", \"ok\"]\nnext = [\"0\", \"m1\", \"3\", \"m1\", \"2\", \"1\"]\n[[operation]]\nname = \"mul\"\nresponse = [\"ok\", \"ok\", \"ok\", \"ok\", \"ok\", \"ok\"]\nnext = [\"4\", \"0\", \"4\", \"m1\", \"4\", \"4\"]\n"
    },
    {
     "path": "catalogue/memory_move_2",
-    "about": "Infinite (Herlihy 1991). From 01 the first move makes 00 or 11, and no later one changes it.",
+    "about": "Infinite (Herlihy 1991). From 01 the first move makes 00 or 11, and no later one changes it. Without a read nothing is answered; the literature's memory is read.",
     "text": "# Two bits of a memory, of which one is copied onto the other.\n# Memory-to-memory move: Herlihy 1991.\nname = \"memory_move_2\"\nstates = [\"m00\", \"m01\", \"m10\", \"m11\"]\nresponses = [\"ok\"]\n[[operation]]\nname = \"move_0_1\"\nresponse = [\"ok\", \"ok\", \"ok\", \"ok\"]\nnext = [\"m00\", \"m00\", \"m11\", \"m11\"]\n[[operation]]\nname = \"move_1_0\"\nresponse = [\"ok\", \"ok\", \"ok\", \"ok\"]\nnext = [\"m00\", \"m11\", \"m00\", \"m11\"]\n"
    }
   ]

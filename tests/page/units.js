@@ -7,7 +7,8 @@ const vm = require('node:vm');
 
 const WEB = path.join(__dirname, '../../web');
 const PARTS = ['texts_en', 'texts_de', 'texts', 'elements', 'answers', 'run', 'lives', 'link', 'table_text', 'table_edits', 'flaw_places', 'notes'];
-PARTS.push('past', 'example_search', 'comparison', 'schedules', 'space_time', 'tournament', 'dot', 'points', 'layout', 'explanation');
+PARTS.push('past', 'example_search', 'comparison', 'schedules', 'space_time', 'tournament', 'dot', 'points', 'layout');
+PARTS.push('reason_parts', 'explanation', 'picture', 'two_runs', 'unread_explanation');
 
 globalThis.Cnum = {};
 for (const part of ['examples', ...PARTS.map(it => `page/${it}`)]) {
@@ -48,6 +49,14 @@ describe('links', () => {
         assert.equal((await Cnum.linkedBy('#example=types/idle&limit=4')).limit, 4);
     });
 
+    it('say so if objects cannot be read', async () => {
+        const link = await Cnum.linkOf({ example: 'types/idle', limit: null, reads: false, inputs: [], acts: [], view: 'why' });
+        assert.equal(link, '#example=types/idle&reads=no&view=why');
+        assert.deepEqual(await Cnum.linkedBy(link), { example: 'types/idle', reads: false, inputs: [], acts: [], view: 'why' });
+        assert.equal(await Cnum.linkOf({ example: 'types/idle', reads: true, inputs: [], acts: [] }), '#example=types/idle');
+        assert.equal((await Cnum.linkedBy('#example=types/idle')).reads, undefined);
+    });
+
     it('of older pages, without a checksum, are read', async () => {
         // The letters of 'name = "tas"\n', packed by DEFLATE alone.
         assert.equal((await Cnum.linkedBy('#table=y0vMTVWwVVAqSSxW4gIA')).text, 'name = "tas"\n');
@@ -73,6 +82,7 @@ describe('links', () => {
         ['#crashes=yes&run=0,cc1', 'its run has the step “cc1”, which no process takes.'],
         ['#run=0,c1', 'its run has the crash “c1”, and it does not say “crashes=yes”.'],
         ['#crashes=no', 'it says “crashes=no”, and the page knows only “crashes=yes”.'],
+        ['#reads=yes', 'it says “reads=yes”, and the page knows only “reads=no”.'],
         ['#inputs=1,abc', 'a process proposes “abc” in it, and that is no number.'],
         ['#inputs=1,', 'a process proposes “” in it, and that is no number.'],
         ['#inputs=18446744073709551616', 'a process proposes “18446744073709551616” in it, and that is no number.'],
@@ -348,6 +358,11 @@ describe('the search over examples', () => {
         const kinds = Cnum.kindsOf([2, 'infinite', { from: 9, to: 16 }, 10, 2]);
         assert.deepEqual(kinds, ['2', '9 to 16', '10', 'infinite']);
     });
+
+    it('tells both numbers of an example, if they are two', () => {
+        assert.equal(Cnum.numbersText({ read: 2, unread: 2 }), '(2)');
+        assert.equal(Cnum.numbersText({ read: 'infinite', unread: 2 }), '(2, and infinite if its state can be read)');
+    });
 });
 
 describe('edits of a table', () => {
@@ -401,6 +416,24 @@ describe('comparisons', () => {
         assert.deepEqual(pairs.map(it => [it.row, it.column, it.number]), [[0, 0, '1'], [1, 1, '2'], [1, 0, 'infinite']]);
         assert.deepEqual([pairs[0].text, pairs[2].text], [SLOT, more]);
     });
+
+    it('have each operation alone and each pair, without reads too', () => {
+        const add = text => Cnum.edits.addOperation(new Cnum.TableText(text));
+        const sets = Cnum.setsUpToTwo(add(add(SLOT)));
+        const [a, b, c] = ['op0', 'op1', 'op2'];
+        assert.deepEqual(sets.map(it => it.operations), [[a], [a, b], [a, c], [b], [b, c], [c]]);
+        assert.deepEqual([sets[0].text, sets[1].text], [SLOT, add(SLOT)]);
+        const told = (...numbers) => Cnum.pairsToldBy(sets, numbers);
+        const { number, alone, pairs } = told(3, 1, 2, 3, 1, 3, 2);
+        assert.equal(number, 3);
+        assert.deepEqual(alone, [{ number: 1, operations: [a] }, { number: 1, operations: [b] }, { number: 2, operations: [c] }]);
+        assert.deepEqual(pairs, [{ number: 2, operations: [a, b] }, { number: 3, operations: [a, c] }, { number: 3, operations: [b, c] }]);
+        assert.deepEqual(told(3, 1, 2, 3, 1, 3, 2).smallest, [[a, c], [b, c]]);
+        assert.deepEqual(told('infinite', 1, 2, 'infinite', 'infinite', 2, 1).smallest, [[b]]);
+        assert.equal(told(3, 1, 2, 2, 1, 2, 2).smallest, null);
+        const open = { at_least: 2, at_most: 3 };
+        assert.equal(told(open, 1, { ...open }, 1, 1, 1, 1).smallest, null);
+    });
 });
 
 describe('places of flaws', () => {
@@ -446,10 +479,34 @@ describe('answers', () => {
     it('stand one in a line', () => assert.deepEqual(Cnum.valuesOf('{"a":1}\n{"a":2}\n'), [{ a: 1 }, { a: 2 }]));
 
     it('have numbers in words', () => {
-        const numbers = [3, 'infinite', { from: 9, to: 12 }, { at_least: 4 }];
-        assert.deepEqual(numbers.map(Cnum.numberText), ['3', 'infinite', '9 to 12', 'at least 4']);
-        assert.deepEqual(numbers.map(Cnum.leastOf), [3, Infinity, 9, 4]);
-        assert.deepEqual(numbers.map(Cnum.mostOf), [3, Infinity, 12, Infinity]);
+        const numbers = [3, 'infinite', { from: 9, to: 12 }, { at_least: 5 }, { at_least: 1, at_most: 2 }];
+        const texts = ['3', 'infinite', '9 to 12', 'at least 5, no upper bound found', 'at least 1, at most 2, not decided'];
+        assert.deepEqual(numbers.map(Cnum.numberText), texts);
+        assert.deepEqual(numbers.map(Cnum.leastOf), [3, Infinity, 9, 5, 1]);
+        assert.deepEqual(numbers.map(Cnum.mostOf), [3, Infinity, 12, Infinity, 2]);
+    });
+
+    const ALONE = 'By the operations of the table alone, ';
+    const SENTENCES = [
+        [1, 'one process alone decides, and no protocol lets 2 agree.'],
+        [2, '2 processes can agree, and no protocol lets 3 agree.'],
+        ['infinite', 'any number of processes can agree.'],
+        [{ from: 9, to: 12 }, '9 processes can agree, and no protocol lets 13 agree; to tell which of these the number is would take too long.'],
+        [{ at_least: 2, at_most: 4 }, '2 processes can agree, and no protocol lets 5 agree; what lies between is not decided.'],
+        [{ at_least: 1, at_most: 2 }, 'no protocol lets 3 agree; whether fewer can agree is not decided.'],
+        [{ at_least: 5 }, '5 processes can agree; whether more can is not decided.'],
+        [{ at_least: 1 }, 'it is not decided whether 2 processes can agree.'],
+    ];
+    for (const [number, sentence] of SENTENCES) {
+        it(`have a sentence for ${JSON.stringify(number)}`, () => {
+            assert.equal(Cnum.sentenceOf(number, false), ALONE + sentence);
+            assert.equal(Cnum.sentenceOf(number, true), `If each process can also read the whole state in one step, ${sentence}`);
+        });
+    }
+
+    it('have a question for each number', () => {
+        const questions = [2, 'infinite', { at_least: 5 }].map(Cnum.questionOf);
+        assert.deepEqual(questions, ['Why 2 and not 3?', 'Why any number?', 'Why?']);
     });
 
     const FAULTS = [
@@ -499,12 +556,24 @@ describe('a picture in DOT', () => {
         const { names, arrows } = Cnum.graphWith(graph, it => it === 'y');
         assert.deepEqual([names, arrows.map(it => it.lines.map(one => one.text))], [['a', 'b'], [['y/s']]]);
     });
+
+    it('is shown with some states as one', () => {
+        const line = text => `x${text}/r`;
+        const arrows = [[0, 1, 1], [0, 2, 2], [1, 2, 3], [2, 0, 4], [1, 0, 5]].map(([from, to, text]) => ({ from, to, lines: [line(text)] }));
+        const merged = Cnum.mergedGraph({ names: ['a', 'b', 'c'], arrows }, ['aa', 'bb', 'cb'].map(it => ({ state: it[0], class: it[1] })));
+        assert.deepEqual(merged.names, ['a', 'b']);
+        const wanted = [[0, 1, ['x1/r', 'x2/r']], [1, 1, ['x3/r']], [1, 0, ['x5/r']]];
+        assert.deepEqual(merged.arrows.map(it => [it.from, it.to, it.lines]), wanted);
+        assert.deepEqual(Cnum.mergedGraph(graph, []), graph);
+    });
 });
 
 // Elements as far as an explanation needs them: their texts, in order.
 class FakeElement {
     constructor(name) {
-        Object.assign(this, { name, parts: [] });
+        const classes = new Set();
+        const toggle = (kind, isOn) => classes[isOn ? 'add' : 'delete'](kind);
+        Object.assign(this, { name, parts: [], classList: { toggle, add: it => classes.add(it), contains: it => classes.has(it) } });
     }
 
     append(...parts) {
@@ -517,7 +586,9 @@ class FakeElement {
 
     setAttribute() {}
 
-    addEventListener() {}
+    addEventListener(kind, act) {
+        this[`on${kind}`] = act;
+    }
 
     get children() {
         return this.parts;
@@ -528,9 +599,31 @@ class FakeElement {
     }
 
     get textContent() {
-        return this.parts.map(it => (typeof it === 'string' ? it : it.hidden ? '' : it.textContent)).join(' ');
+        return this.parts.map(it => (typeof it === 'string' ? it : it.isHidden() ? '' : it.textContent)).join(' ');
+    }
+
+    isHidden() {
+        return this.hidden || this.classList.contains('later');
+    }
+
+    // All elements in it of one name.
+    all(name) {
+        return this.parts.filter(it => it instanceof FakeElement).flatMap(it => [...(it.name === name ? [it] : []), ...it.all(name)]);
     }
 }
+
+// What a place shows in a language.
+function shownIn(language, show) {
+    globalThis.document = { createElement: name => new FakeElement(name) };
+    Cnum.useLanguage(language);
+    const place = new FakeElement('div');
+    show(place);
+    Cnum.useLanguage('en');
+    return place;
+}
+
+const plain = text => text.replace(/\s+/g, ' ').trim();
+const has = (text, ...parts) => parts.forEach(it => assert.ok(text.includes(it), `${it} in ${text}`));
 
 describe('an explanation', () => {
     const pair = (response, state) => ({ response, state });
@@ -555,15 +648,9 @@ describe('an explanation', () => {
     const INFINITE = { ...NUMBER_2, apart: [['put0', 'put1']], collisions: [], lasting, number: 'infinite', rule: null, witness: eight };
 
     function shown(value, language = 'en') {
-        globalThis.document = { createElement: name => new FakeElement(name) };
-        Cnum.useLanguage(language);
-        const place = new FakeElement('div');
-        Cnum.showExplanation(place, value, { all: async () => value, printed: async () => '' });
-        Cnum.useLanguage('en');
-        return place.textContent.replace(/\s+/g, ' ');
+        const how = { all: async () => value, printed: async () => '' };
+        return plain(shownIn(language, it => Cnum.showExplanation(it, value, how)).textContent);
     }
-
-    const has = (text, ...parts) => parts.forEach(it => assert.ok(text.includes(it), `${it} in ${text}`));
 
     it('of a number has a witness and collisions', () => {
         has(shown(NUMBER_2), 'Why 2: ', 'It starts in zero; A: p0 does tas; B: p1 does tas.', 'got zero, reads one', 'at most 2', 'Why not 3: 1 way ');
@@ -595,6 +682,151 @@ describe('an explanation', () => {
     });
 });
 
+describe('an explanation without reads', () => {
+    const step = (process, operation, response, state) => ({ operation, process, response, state });
+    const sight = (response, ...answers) => ({ answers: answers.map(([operation, answer]) => ({ operation, response: answer })), response });
+    const of = (operation, team, a, b) => ({ a_first: [a], b_first: [b], operation, team });
+    // A queue with room for one item. By hand: in both runs p0 gets ok, and the item a is in the queue in the end.
+    const CHOICE = {
+        a_first: [step(0, 'enq_a', 'ok', 'qa')],
+        b_first: [step(1, 'enq_b', 'ok', 'qb'), step(2, 'deq', 'b', 'q'), step(0, 'enq_a', 'ok', 'qa')],
+        process: 0,
+        processes: [{ operation: 'enq_a', team: 'A' }, { operation: 'enq_b', team: 'B' }, { operation: 'deq', team: 'B' }],
+        start: 'q',
+    };
+    const QUEUE = {
+        merged: [], name: 'queue_1', refuted: { choices: [CHOICE], count: 24, positions: 126, processes: 3 }, rule: null, signs: null,
+        telling: null, with_reads: false, without_read: 2,
+        witness: {
+            follow_ups: [], looks: [], start: 'qa',
+            processes: [of('deq', 'A', sight('a'), sight('empty')), of('deq', 'B', sight('empty'), sight('a'))],
+        },
+    };
+
+    // The picture of the states, as far as the runs light it up: `seen` holds the states that are lit, one for each run.
+    function place(value, language = 'en') {
+        const seen = [];
+        const light = Cnum.lightUp;
+        Cnum.lightUp = (picture, state, move) => (seen[picture.number] = [state, move]);
+        Cnum.reveal = () => {};
+        const picture = () => Object.assign(new FakeElement('svg'), { number: 0, cloneNode: () => Object.assign(new FakeElement('svg'), { number: 1 }) });
+        const made = shownIn(language, it => Cnum.showUnreadExplanation(it, value, { picture, printed: async () => '' }));
+        const press = label => made.all('button').find(it => it.textContent === label).onclick();
+        const key = name => made.all('div').find(it => it.onkeydown).onkeydown({ key: name, preventDefault() {} });
+        const way = number => Object.assign(made.all('select')[0], { value: number }).onchange();
+        return { seen, press, key, way, slider: made.all('input')[0], text: () => plain(made.textContent), end: () => (Cnum.lightUp = light) };
+    }
+
+    function shown(value, language) {
+        const made = place(value, language);
+        made.end();
+        return made.text();
+    }
+
+    it('has a witness, and two runs of the adversary', () => {
+        const text = shown(QUEUE);
+        has(text, 'Why 2: by its responses', 'starts in qa; A: p0 does deq; B: p1 does deq.', 'p0 deq got a got empty p1 deq got empty got a');
+        has(text, 'Why not 3: in each of 24 ways', 'Start q; A: p0 does enq_a; B: p1 does enq_b, p2 does deq.', 'with different decisions');
+        has(text, 'A first q p0 enq_a answers ok qa', 'B first q p1 enq_b answers ok qb p2 deq answers b q p0 enq_a answers ok qa');
+        has(text, 'p0 (A) enq_a: ok enq_a: ok p1 (B) enq_b: ok p2 (B) deq: b');
+        has(text, 'p0 gets the same in both runs, and the object is in state qa after each.', 'So it decides the same in both.');
+        has(text, '126 positions', 'count as one. Ways in which an operation leaves the start state unchanged', 'for 3 without reads: this is proved.');
+        has(shown(QUEUE, 'de'), 'Warum 2: ', 'Warum nicht 3: bei jeder von 24 Weisen', 'p0 bekommt in beiden Läufen dasselbe', 'ohne Lesen: das ist bewiesen');
+    });
+
+    it('lets one step the two runs', () => {
+        const made = place(QUEUE);
+        const lit = () => made.seen.map(([state]) => state);
+        assert.deepEqual(lit(), ['qa', 'qa']);
+        made.press('Start over');
+        assert.deepEqual([lit(), made.slider.value], [['q', 'q'], 0]);
+        has(made.text(), '0 of 3', 'A first q Run 2 B first q Process', 'p0 (A) p1 (B) p2 (B)');
+        assert.ok(!made.text().includes('p0 gets the same'));
+        made.press('Next');
+        assert.deepEqual(made.seen, [['qa', { operation: 'enq_a', before: 'q', after: 'qa' }], ['qb', { operation: 'enq_b', before: 'q', after: 'qb' }]]);
+        has(made.text(), 'B first q p1 enq_b answers ok qb Process', 'Run 1: p0 does enq_a, ok, state qa. Run 2: p1 does enq_b, ok, state qb.');
+        made.key('ArrowRight');
+        assert.deepEqual([lit(), made.slider.value], [['qa', 'q'], 2]);
+        has(made.text(), '2 of 3', 'A first q p0 enq_a answers ok qa Run 2');
+        made.slider.value = 3;
+        made.slider.oninput();
+        has(made.text(), '3 of 3', 'Run 2: p0 does enq_a, ok, state qa. p0 gets the same in both runs');
+        made.press('Back');
+        assert.ok(!made.text().includes('p0 gets the same'));
+        for (const [name, at] of [['ArrowLeft', 1], ['ArrowLeft', 0], ['ArrowLeft', 0], ['Home', 0]]) {
+            made.key(name);
+            assert.equal(made.slider.value, at);
+        }
+        made.end();
+    });
+
+    it('of runs without an end says so', () => {
+        const endless = { ...QUEUE, refuted: { ...QUEUE.refuted, choices: [{ ...CHOICE, a_first: [], b_first: [], process: null }], count: 1 } };
+        const text = shown(endless);
+        has(text, 'in the 1 way to choose', 'Start q; A: ', 'the adversary can go on for ever');
+        assert.ok(!text.includes('Next') && !text.includes('Which of the ways'));
+    });
+
+    it('has each of the ways that are told', () => {
+        // By hand: p1 gets nothing, and the queue is empty in the end.
+        const other = {
+            a_first: [step(0, 'enq_a', 'ok', 'qa'), step(2, 'deq', 'a', 'q')],
+            b_first: [step(2, 'deq', 'empty', 'q')],
+            process: 1,
+            processes: [{ operation: 'enq_a', team: 'A' }, { operation: 'enq_a', team: 'B' }, { operation: 'deq', team: 'B' }],
+            start: 'q',
+        };
+        const made = place({ ...QUEUE, refuted: { ...QUEUE.refuted, choices: [CHOICE, other] } });
+        has(made.text(), 'Which of the ways: 1 of 24 2 of 24 Start q; A: p0 does enq_a; B: p1 does enq_b, p2 does deq.');
+        made.way(1);
+        has(made.text(), 'Start q; A: p0 does enq_a; B: p1 does enq_a, p2 does deq.', '2 of 2', 'p1 gets nothing in either run, and the object is in state q');
+        assert.deepEqual(made.seen.map(([state]) => state), ['q', 'q']);
+        made.end();
+    });
+
+    it('tells what processes do next, and states that are one', () => {
+        const looked = { ...QUEUE.witness, looks: ['peek'], processes: [of('enq_a', 'A', sight('ok', ['peek', 'a']), sight('ok', ['peek', 'b']))] };
+        has(shown({ ...QUEUE, witness: looked }), 'Then each process does peek, in this order.', 'got ok, then peek: a', 'got ok, then peek: b');
+        const followed = { ...QUEUE.witness, follow_ups: [{ further: 'cas21', operation: 'cas02', response: 'no' }] };
+        has(shown({ ...QUEUE, witness: followed }), 'After cas02 with no a process does cas21.');
+        const merged = [{ state: 'q', class: 'q' }, { state: 'qa', class: 'qa' }, { state: 'qb', class: 'qa' }];
+        const text = shown({ ...QUEUE, merged });
+        has(text, 'No operations tell qb from qa, so they are one state here.');
+        assert.ok(!text.includes('tell qa from qa'));
+    });
+
+    it('of more processes than the witness is for says so', () => {
+        const sticky = { ...QUEUE, refuted: null, telling: 'responses', without_read: 'infinite' };
+        has(shown(sticky), 'Each response tells the state', 'For 2 processes, say:', 'Why 2: ', 'It is so for each number of processes');
+    });
+
+    it('of no greatest number has signs', () => {
+        const signs = { further: ['peek'], many: 'enq_b', side: 'A', signs: [{ operation: 'peek', response: 'a' }], single: 'enq_a', start: 'q' };
+        const text = shown({ ...QUEUE, refuted: null, signs, witness: null, without_read: 'infinite' });
+        has(text, 'one process of team A does enq_a, and any number of others in team B do enq_b', 'does peek until a response is a sign of team A: peek: a.');
+        has(text, 'It is so for each number of processes: this is proved.');
+    });
+
+    it('by the number with reads has its rule', () => {
+        const text = shown({ ...QUEUE, refuted: null, rule: 'two_states', telling: 'responses', with_reads: true });
+        has(text, 'Each response tells the state', 'Why not 3: not even 3 processes that read objects can agree', 'The type has two states.', 'without reads: this is proved');
+    });
+
+    it('of a number that is open says what is known', () => {
+        has(shown({ ...QUEUE, refuted: null, without_read: { at_least: 2 } }), 'No upper bound was found. What is known of the number: at least 2, no upper bound found.');
+        const range = shown({ ...QUEUE, refuted: { ...QUEUE.refuted, processes: 4 }, without_read: { at_least: 1, at_most: 3 }, witness: null });
+        has(range, 'One process alone', 'Why not 4: ', 'for 4 without reads: this is proved. What is known of the number: at least 1, at most 3, not decided.');
+    });
+
+    // The values that the schema permits, once there is one.
+    const VALUES = path.join(WEB, '../tests/texts/schemas/unread_explanation.json');
+    it('is there for each kind of value', { skip: !fs.existsSync(VALUES) }, () => {
+        for (const value of JSON.parse(fs.readFileSync(VALUES, 'utf8')).right) has(shown(value), 'As the program prints it');
+    });
+
+    it('that the program does not give is none', () => assert.equal(shown(null), 'No reasons are shown for this number.'));
+});
+
 describe('the layout', () => {
     const box = (x, y, width, height) => ({ left: x - width / 2, right: x + width / 2, top: y - height / 2, bottom: y + height / 2 });
     const meets = (a, b) => a.left < b.right && b.left < a.right && a.top < b.bottom && b.top < a.bottom;
@@ -624,7 +856,7 @@ describe('the texts', () => {
     it('are all used, and no other', () => {
         const files = fs.readdirSync(path.join(WEB, 'page')).filter(it => !it.startsWith('texts_'));
         const sources = [...files.map(it => `page/${it}`), 'index.html'].map(it => fs.readFileSync(path.join(WEB, it), 'utf8')).join('\n');
-        const families = ['fault_', 'log_', 'kind_', 'save_', 'word_', 'rule_'];
+        const families = ['fault_', 'log_', 'kind_', 'save_', 'word_', 'rule_', 'telling_'];
         const isUsed = key => sources.includes(`'${key}'`) || sources.includes(`"${key}"`) || families.some(it => key.startsWith(it));
         assert.deepEqual(Object.keys(en.texts).filter(key => !isUsed(key)), []);
         const asked = [...sources.matchAll(/\b(?:say|marked|paragraph|head)\('(\w+)'|data-(?:text|label|placeholder)="(\w+)"/g)].map(it => it[1] || it[2]);

@@ -59,6 +59,7 @@ next = ["b", "b"]
 """
 
 LONG = TYPES["climbed_16_8"]  # the number takes longest of the types of tests/types
+LONG_UNREAD = TYPES["climbed_16_5"]  # that without reads does
 
 # Questions to the page, in its own language.
 
@@ -164,8 +165,8 @@ class Use:
         return pathlib.Path(room, before + name)
 
     def seen(self):
-        """The table, the number, and the run that the page shows."""
-        return self.table(), self.text("number"), self.texts(".log li"), self.value("Cnum.page.protocol.inputs")
+        """The table, the number, the run that the page shows, and whether objects are read."""
+        return self.table(), self.text("number"), self.texts(".log li"), self.value("Cnum.page.protocol.inputs"), self.value("Cnum.page.reads")
 
     def text(self, name):
         return self.value(f"document.getElementById('{name}').textContent")
@@ -179,9 +180,9 @@ class Use:
     def is_hidden(self, name):
         return self.value(f"document.getElementById('{name}').hidden")
 
-    def has_number(self, number):
+    def has_number(self, number, place="number"):
         """Whether the page shows this number in the end."""
-        return self.until(f"document.getElementById('number').textContent === {json.dumps(number)}")
+        return self.until(f"document.getElementById({place!r}).textContent === {json.dumps(number)}")
 
     def do(self, action):
         """Does something in the page, and waits until it has ended."""
@@ -265,6 +266,11 @@ def native_number(table):
     return called(["classify", "-"], table)[0].decode().partition(": ")[2].strip()
 
 
+def native_unread(table):
+    """The number without reads that the program itself prints."""
+    return called(["classify", "--without-read", "-"], table)[0].decode().partition(", without read ")[2].strip()
+
+
 def first_answer(use):
     times, patience = [], Patience(FIRST)
     for _ in range(3):
@@ -345,23 +351,27 @@ def names_in(note):
 
 
 def meanings(use):
-    """What the page says of a number, of no greatest number, and of a range."""
+    """What the page says of both numbers: of a number, of no greatest number, of a range, and of what is not decided."""
     use.open()
-    for name, number, *told in (
-        ("idle", "1", "One process alone decides.", "No protocol lets 2 agree."),
-        ("three_shot", "3", "3 processes can agree", "No protocol lets 4 agree."),
-        ("sticky_bit", "infinite", "Any number of processes can agree"),
-        ("inc_dec_9", "9", "9 processes can agree", "No protocol lets 10 agree."),
-        ("memory_swap_own_8", "8", "8 processes can agree", "No protocol lets 9 agree."),
-        ("inc_dec_copies_16_8", "9 to 16", "9 processes can agree", "No protocol lets 17 agree.", "would take too long."),
+    for name, number, without, *told in (
+        ("idle", "1", "1", "one process alone decides,", "no protocol lets 2 agree."),
+        ("three_shot", "3", "3", "3 processes can agree", "no protocol lets 4 agree."),
+        ("sticky_bit", "infinite", "infinite", "any number of processes can agree"),
+        ("queue_2", "infinite", "2", "any number of processes can agree"),
+        ("inc_dec_9", "9", "9", "9 processes can agree", "no protocol lets 10 agree."),
+        ("memory_swap_own_8", "8", "1", "8 processes can agree", "no protocol lets 9 agree."),
+        ("inc_dec_copies_16_8", "9 to 16", "at least 9, at most 16, not decided", "9 processes can agree", "no protocol lets 17 agree", "would take too long."),
     ):
         use.give(TYPES[name] if name in TYPES else (TOP / f"catalogue/{name}.toml").read_text())
         said = use.text("meaning")
+        well = use.has_number(without, "number-without") and use.text("meaning-without").startswith("By the operations of the table alone, ")
+        yield f"the number of {name} without reads", well, (use.text("number-without"), use.text("meaning-without"))
         yield f"the number of {name}", use.text("number") == number, use.text("number")
         recoverable = called(["classify", "--recoverable", "-"], use.table())[0].decode().partition(", recoverable ")[2].strip()
         line = use.text("recoverable")
         yield f"the recoverable number of {name}", line.startswith(f"Recoverable number: {recoverable}. "), line
-        yield f"what it says of {name}", all(it in said for it in told) and ("No protocol" in said) == (number != "infinite"), said
+        yield f"what it says of {name}", all(it in said for it in told) and ("no protocol" in said) == (number != "infinite"), said
+    yield "what is not decided is said", "agree; what lies between is not decided." in use.text("meaning-without"), use.text("meaning-without")
 
 
 def pictures(use):
@@ -535,6 +545,99 @@ def comparisons(use):
     yield "it comes back", use.table() == SLOT, use.table()
     use.give("x")
     yield "a table with a flaw is not compared", use.count("#comparison table") == 0, ""
+
+
+PRESS_COMPARISON = "[...document.querySelectorAll('#comparison button')].find(it => it.textContent === %r).click()"
+CHOSEN = "[...document.querySelectorAll('.answer.chosen [name=reads]:checked')].map(it => it.id)"
+ONE_OR_TWO = "Cnum.setsUpToTwo(Cnum.page.text).map(it => [it.operations, it.text])"
+CELL_TEXTS = "[...document.querySelectorAll('#comparison tbody tr')].map(it => [it.cells[0].textContent, it.cells[1].textContent])"
+
+
+def unread(use):
+    """The choice of objects that nobody reads: comparisons, the search over the examples, and links are for it."""
+    use.open("#example=catalogue/queue_2")
+    both = use.has_number("2", "number-without") and use.text("number") == "infinite"
+    yield "a queue has 2, and infinite if its state can be read", both, (use.text("number-without"), use.text("number"))
+    yield "objects that can be read are chosen first", use.value(CHOSEN) == ["reads"] and use.is_hidden("protocol-of"), use.value(CHOSEN)
+    use.value("document.getElementById('reads-without').click()")
+    yield "others are chosen, and the link says so", use.until("location.hash === '#example=catalogue/queue_2&reads=no'", 5), use.value("location.hash")
+    said = use.value(CHOSEN), use.texts(".of-choice span"), use.is_hidden("protocol-of"), use.text("limit-said")
+    well = said[0] == ["reads-without"] and all(it.startswith("Without reads") for it in said[1]) and not said[2]
+    yield "each part says so", well and said[3].startswith("The protocol is for 8 processes"), said
+    sets = use.value(ONE_OR_TWO)
+    use.value(PRESS_COMPARISON % "Each pair of operations")
+    use.until("document.querySelectorAll('#comparison tbody button').length === 6")
+    numbers = {frozenset(operations): native_unread(text) for operations, text in sets}
+    names = [operations[0] for operations, _ in sets if len(operations) == 1]
+    wanted = [numbers[frozenset({first, second})] for k, first in enumerate(names) for second in names[: k + 1]]
+    yield "the number of each pair", use.texts("#comparison tbody button") == wanted, (use.texts("#comparison tbody button"), wanted)
+    yield "the smallest sets with the number", use.texts("#comparison li") == names, use.texts("#comparison li")
+    use.value("document.querySelector('#compare-of button').click()")
+    well = use.until("/infinite/.test(document.getElementById('comparison').textContent)", 10) and use.value(CHOSEN) == ["reads"]
+    yield "the button leads back, and the comparison follows", well and use.count("#comparison tbody button") == 6, use.text("comparison")
+    yield "and so does the link", use.until("location.hash === '#example=catalogue/queue_2'", 5), use.value("location.hash")
+    use.value("document.getElementById('open-why-without').click()")
+    well = use.value("document.activeElement.id === 'why-part'") and use.value(CHOSEN) == ["reads-without"]
+    yield "the question beside a number leads to its reasons", well and use.text("open-why-without") == "Why 2 and not 3?", use.value(CHOSEN)
+    use.open("#example=catalogue/deque_2&reads=no&view=pairs")
+    yield "a link shows it", use.until("document.querySelectorAll('#comparison tbody button').length === 21"), use.text("comparison")
+    use.open("#example=catalogue/queue_2&reads=no")
+    use.value(PRESS_COMPARISON % "Without each operation")
+    use.until("document.querySelectorAll('#comparison tbody tr').length === 4")
+    whole = "Cnum.withoutEach(Cnum.page.text).map(it => [it.operation, it.text])"
+    wanted = [["none", "2"]] + [[name, native_unread(text)] for name, text in use.value(whole)]
+    yield "the number without each operation", use.value(CELL_TEXTS) == wanted, (use.value(CELL_TEXTS), wanted)
+    use.value(PRESS_COMPARISON % "Keep this table to compare")
+    use.choose("catalogue/peek_queue_2")
+    well = use.until("document.querySelectorAll('#comparison h3').length === 1", 10)
+    yield "a table beside another", well and "was 2, and is infinite now" in use.text("comparison"), use.text("comparison")
+    use.search("queue_2")
+    found = use.until("/if its state can be read/.test(document.getElementById('examples').textContent)", 10)
+    said = use.value("document.querySelector('#examples [role=option]').textContent")
+    yield "the examples have both numbers", found and said.startswith("queue_2 (2, and infinite if its state can be read)"), said
+    use.value("(it => { it.value = '2'; it.dispatchEvent(new Event('change')); })(document.getElementById('example-number'))")
+    names = use.texts("#examples [role=option] strong")
+    yield "and are found by the one that is chosen", "queue_2" in names and "window_2" not in names and "test_and_set" in names, names
+    use.open("#example=types/three_shot&reads=no&crashes=yes&run=0,1")
+    said = use.text("limit-said"), use.count(".process"), use.value("location.hash")
+    yield "beside processes that come back", said == ("", 2, "#example=types/three_shot&crashes=yes&reads=no&inputs=10,20&run=0,1"), said
+    use.open("#example=types/test_and_set&reads=yes")
+    yield "another choice is refused", "reads=yes" in use.text("trouble") and use.is_hidden("content"), use.text("trouble")
+
+
+# The states that are seen in two runs, those that are lit in their pictures, and the end.
+RUNS_SEEN = """(seen => [
+    ...[...document.querySelectorAll('.two-runs .run')].map(it => [...it.querySelectorAll('.state')].filter(seen).map(one => one.textContent)),
+    [...document.querySelectorAll('.two-runs .node.lit')].map(it => it.dataset.state),
+    seen(document.querySelector('.end-of-runs')),
+])(it => getComputedStyle(it).visibility === 'visible')"""
+
+
+def two_runs(use):
+    """Why the number without reads is what it is: both runs of the adversary, stepped together. A program that has no such reasons
+    shows none."""
+    for name in ("queue_1", "queue_2", "window_3", "dec_mul"):
+        use.open(f"#example=catalogue/{name}&reads=no")
+        told, _, status = called(["why", "--without-read", "--as", "json", "-"], use.table())
+        use.until("document.querySelector('#why').textContent")
+        if status:
+            yield f"no reasons of {name}", use.text("why") == "No reasons are shown for this number.", use.text("why")
+            continue
+        told = json.loads(told)
+        choice = told["refuted"] and told["refuted"]["choices"][0]
+        yield f"the two runs of {name}", bool(choice) == bool(use.count(".two-runs")), told["refuted"]
+        if not choice:
+            continue
+        runs = [[choice["start"], *(it["state"] for it in choice[side])] for side in ("a_first", "b_first")]
+        wanted = [*runs, [it[-1] for it in runs], True]
+        yield f"{name}: the whole runs", use.value(RUNS_SEEN) == wanted, (use.value(RUNS_SEEN), wanted)
+        use.value("document.querySelector('.two-runs button').click()")
+        for steps in range(max(map(len, runs))):
+            seen = [it[: steps + 1] for it in runs]
+            wanted = [*seen, [it[-1] for it in seen], steps + 1 == max(map(len, runs))]
+            yield f"{name}: {steps} steps", use.value(RUNS_SEEN) == wanted, (use.value(RUNS_SEEN), wanted)
+            use.press_key(".two-runs .buttons button", "ArrowRight")
+        yield f"{name}: as it is printed", use.count("#why details") == 1, ""
 
 
 def example_search(use):
@@ -891,7 +994,7 @@ def one_file(use):
             yield "it answers alone in a folder", use.has_number("2"), use.text("trouble")
             times.append(time.monotonic() - began)
         yield f"in less than {FIRST} s", min(times) < patience.bound(), times
-        for run in ("run=0,1,x1", "crashes=yes&run=0,1,c1"):
+        for run in ("run=0,1,x1", "crashes=yes&run=0,1,c1", "reads=no&run=0,1"):
             use.open(f"#example=types/three_shot&{run}", page=alone)
             use.value("Cnum.page.protocol.update()")
             names = [use.saved(room, "Cnum.page.address.savePage()")]
@@ -1049,6 +1152,12 @@ def searches(use):
     yield "it can be broken off", well and "broken off" in use.text("meaning"), use.text("meaning")
     use.choose("types/test_and_set")
     yield "and the page goes on", use.text("number") == "2", use.text("number")
+    use.begin(LONG_UNREAD)
+    well = use.until("!document.getElementById('running-without').hidden", 20) and use.has_number("6")
+    yield "a long search for the number without reads does not hold up the other", well, (use.text("meaning"), use.text("meaning-without"))
+    use.value("document.getElementById('break-off-without').click()")
+    said = use.is_hidden("running-without"), use.text("meaning-without"), use.text("number-without"), use.text("number")
+    yield "and can be broken off", said == (True, "The search was broken off.", "–", "6"), said
     use.begin(LONG)
     use.until("!document.getElementById('running').hidden", 20)
     use.choose("types/idle")
@@ -1152,7 +1261,7 @@ def languages(use):
     use.open("#example=types/three_shot&run=0,1,x1&lang=de")
     head = use.value("[document.documentElement.lang, document.querySelector('h1').textContent, document.title]")
     yield "the page is German", head[0] == "de" and head[1].startswith("Wie viele Prozesse") and "einigen" in head[2], head
-    yield "with what was said before in English", use.text("meaning").startswith("3 Prozesse können sich einigen, durch"), use.text("meaning")
+    yield "with what was said before in English", "können sich 3 Prozesse einigen, und kein Protokoll" in use.text("meaning"), use.text("meaning")
     yield "the log too", use.texts(".log li")[2] == "Prozess 1: hält für immer an", use.texts(".log li")
     yield "the link says so", use.until("location.hash.endsWith('&lang=de')", 5), use.value("location.hash")
     empty = use.value("[...document.querySelectorAll('[data-text]')].filter(it => !it.textContent.trim()).map(it => it.dataset.text)")
@@ -1246,12 +1355,12 @@ def planted(use):
 
 
 ALL = (
-    first_answer, flaws, examples, meanings, pictures, picture_tools, words, grid, changes, comparisons, example_search, planted,
-    schedules, crashes, forgotten, pictured_runs, adversaries, keys, phone, links, certificates, explanations, searches, one_file, without, for_all,
+    first_answer, flaws, examples, meanings, pictures, picture_tools, words, grid, changes, comparisons, unread, two_runs, example_search,
+    planted, schedules, crashes, forgotten, pictured_runs, adversaries, keys, phone, links, certificates, explanations, searches, one_file, without, for_all,
     paper, slides, languages, foot, quiet, on_a_server, missing_parts,
 )
 # The parts that also run in a browser that is not driven by DevTools.
 WITHOUT_DEVTOOLS = (
-    first_answer, meanings, pictures, words, grid, changes, comparisons, example_search, planted, schedules, crashes, forgotten,
-    pictured_runs, adversaries, keys, links, certificates, explanations, searches, one_file, languages, foot, on_a_server, missing_parts,
+    first_answer, meanings, pictures, words, grid, changes, comparisons, unread, two_runs, example_search, planted, schedules, crashes,
+    forgotten, pictured_runs, adversaries, keys, links, certificates, explanations, searches, one_file, languages, foot, on_a_server, missing_parts,
 )

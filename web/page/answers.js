@@ -17,16 +17,38 @@ var Cnum = globalThis.Cnum || {};
     // The values of JSON texts with a line each.
     Cnum.valuesOf = text => text.split('\n').filter(Boolean).map(it => JSON.parse(it));
 
-    // A number of `classify` in words.
+    // A number of `classify` in words, or what is known of the number without reads.
     Cnum.numberText = function (number) {
         if (number === 'infinite') return say('infinite');
         if (typeof number !== 'object') return String(number);
-        return 'at_least' in number ? say('at_least', { least: number.at_least }) : say('range', number);
+        if ('from' in number) return say('range', number);
+        const { at_least: least, at_most: most } = number;
+        return most ? say('not_decided', { least, most }) : say('at_least', { least });
     };
 
     // The least and the greatest that a number can be.
     Cnum.leastOf = number => (number === 'infinite' ? Infinity : number.from || number.at_least || number);
-    Cnum.mostOf = number => (number === 'infinite' || number.at_least ? Infinity : number.to || number);
+    Cnum.mostOf = number => (typeof number === 'number' ? number : number.to || number.at_most || Infinity);
+
+    // What a number says in one sentence: with reads, of processes that can read the whole state of an object too, and without
+    // reads, of processes that have the operations of the table alone.
+    Cnum.sentenceOf = (number, reads) => say(reads ? 'with_reads' : 'without_reads', { can: howManyCan(number) });
+
+    // The question why a number is what it is.
+    Cnum.questionOf = function (number) {
+        if (number === 'infinite') return say('why_any_number');
+        return typeof number === 'object' ? say('why_range') : say('why_this_number', { count: number, more: number + 1 });
+    };
+
+    function howManyCan(number) {
+        const [count, most] = [Cnum.leastOf(number), Cnum.mostOf(number)];
+        if (count === Infinity) return say('can_any');
+        const more = most + 1;
+        if (count === most) return count === 1 ? say('can_alone') : say('can_exactly', { count, more });
+        if (most === Infinity) return count === 1 ? say('can_unknown') : say('can_at_least', { count });
+        if (count === 1) return say('can_undecided', { more });
+        return say(number.from ? 'can_range' : 'can_between', { count, more });
+    }
 
     // The parts of a fault line: `cnum: SOURCE: NUMBER NAME PLACE`, or `cnum: ` and words. In `classify` the name of
     // standard input stands before them.

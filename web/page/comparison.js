@@ -6,6 +6,7 @@ var Cnum = globalThis.Cnum || {};
     'use strict';
 
     const { button, element, say, tableOf, wide } = Cnum;
+    const BEFORE_WAITING = 400;
 
     // The cells of a table, 'response → state' each, by operation and state.
     function cellsOf(text) {
@@ -40,6 +41,22 @@ var Cnum = globalThis.Cnum || {};
         return others.reduce((left, index) => Cnum.edits.removeOperation(new Cnum.TableText(left), index), text);
     }
 
+    // The table with each operation alone and with each pair of them, as { operations, text }.
+    Cnum.setsUpToTwo = function (text) {
+        const names = new Cnum.TableText(text).operations.map(it => it.name.text);
+        const places = names.flatMap((_, first) => [[first], ...names.map((_, second) => [first, second]).slice(first + 1)]);
+        return places.map(its => ({ operations: its.map(it => names[it]), text: only(text, its) }));
+    };
+
+    // What `pairs` tells, by the number of a table and those of these sets of its operations. The smallest sets of the number are
+    // null if each has more than two operations, or if the number is not decided.
+    Cnum.pairsToldBy = function (sets, [number, ...numbers]) {
+        const told = sets.map(({ operations }, index) => ({ number: numbers[index], operations }));
+        const ofSize = size => told.filter(it => it.operations.length === size);
+        const found = [1, 2].map(size => ofSize(size).filter(it => it.number === number)).find(it => it.length);
+        return { number, alone: ofSize(1), pairs: ofSize(2), smallest: found ? found.map(it => it.operations) : null };
+    };
+
     // The table with each operation alone and with each pair of them, as { row, column, number, text }, by what `pairs`
     // tells of the table.
     Cnum.pairsOf = function (text, { alone, pairs }) {
@@ -52,6 +69,7 @@ var Cnum = globalThis.Cnum || {};
 
     // The smallest sets of operations with the number of the type, as `pairs` tells them.
     function smallest({ number, smallest: sets }) {
+        if (!sets) return typeof number === 'object' ? [] : [element('p', {}, say('no_small_set', { number: Cnum.numberText(number) }))];
         if (!sets.length) return [];
         const listed = element('ul', {}, ...sets.map(it => element('li', {}, it.join(', '))));
         return [element('p', {}, say('smallest_sets', { number: Cnum.numberText(number) })), listed];
@@ -59,22 +77,24 @@ var Cnum = globalThis.Cnum || {};
 
     class Comparison {
         // Shows comparisons in this place. `numbers` gives the numbers of tables, and `pairs` what `pairs` tells of
-        // one; either is null if the program ends with a fault. `take` makes a table the present one, and `openWhy`
-        // also shows why it has its number.
-        constructor(place, { numbers, pairs, take, openWhy }) {
-            Object.assign(this, { numbers, pairs, take, openWhy, text: '', first: null, round: 0 });
+        // one; either is null if the program ends with a fault or is broken off. `breakOff` does that. `take` makes a
+        // table the present one, and `openWhy` also shows why it has its number.
+        constructor(place, { numbers, pairs, breakOff, take, openWhy }) {
+            Object.assign(this, { numbers, pairs, breakOff, take, openWhy, text: '', first: null, round: 0, repeat: null });
             this.withoutButton = button(say('without_each'), () => this.leaveOut());
             this.pairsButton = button(say('each_pair'), () => this.pair());
             this.keepButton = button(say('keep_table'), () => this.keep());
             this.answer = element('div', { 'aria-live': 'polite' });
             this.beside = element('div', { 'aria-live': 'polite' });
+            this.waiting = element('div', { hidden: '' }, say('searching'), ' ', button(say('break_off'), () => this.breakOff()));
             const buttons = element('div', { class: 'buttons' }, this.pairsButton, this.withoutButton, this.keepButton);
-            place.replaceChildren(buttons, this.answer, this.beside);
+            place.replaceChildren(buttons, this.waiting, this.answer, this.beside);
         }
 
         // The present table, or an empty text if it has flaws.
         show(text) {
             this.text = text;
+            this.repeat = null;
             this.round++;
             this.withoutButton.disabled = this.pairsButton.disabled = Cnum.withoutEach(text).length === 0;
             this.keepButton.disabled = !text;
@@ -82,12 +102,30 @@ var Cnum = globalThis.Cnum || {};
             return this.compare();
         }
 
+        // Shows the same comparison for the other choice of numbers.
+        again() {
+            const { repeat, text } = this;
+            this.breakOff();
+            this.show(text);
+            if (repeat) repeat();
+        }
+
+        // What is asked for, or null if another table has come since. If it takes long, that is shown.
+        async told(asked) {
+            const { round } = this;
+            const slow = setTimeout(() => (this.waiting.hidden = false), BEFORE_WAITING);
+            const answer = await asked;
+            clearTimeout(slow);
+            this.waiting.hidden = true;
+            return round === this.round ? answer : null;
+        }
+
         // The number of the table without each of its operations.
         async leaveOut() {
-            const round = this.round;
+            this.repeat = () => this.leaveOut();
             const tables = Cnum.withoutEach(this.text);
-            const told = await this.numbers([this.text, ...tables.map(it => it.text)]);
-            if (!told || round !== this.round) return;
+            const told = await this.told(this.numbers([this.text, ...tables.map(it => it.text)]));
+            if (!told) return;
             const [whole, ...numbers] = told.map(Cnum.numberText);
             const showing = text => button(say('show_table'), () => this.take(text));
             const rows = tables.map((it, index) => [it.operation, numbers[index], showing(it.text)]);
@@ -99,9 +137,10 @@ var Cnum = globalThis.Cnum || {};
         // The number of each operation alone and of each pair, in a triangle. A cell leads to the table. Below it, the
         // smallest sets with the number of the whole.
         async pair() {
-            const { round, text } = this;
-            const told = await this.pairs(text);
-            if (!told || round !== this.round) return;
+            const { text } = this;
+            this.repeat = () => this.pair();
+            const told = await this.told(this.pairs(text));
+            if (!told) return;
             const names = told.alone.map(it => it.operations[0]);
             const rows = names.map(name => [name, ...Array(names.length).fill('')]);
             for (const { row, column, number, text: pair } of Cnum.pairsOf(text, told)) {
@@ -119,13 +158,13 @@ var Cnum = globalThis.Cnum || {};
 
         // The table that was kept beside the present one, if they are two.
         async compare() {
-            const { text, first, round } = this;
+            const { text, first } = this;
             if (!first || !text || first === text) {
                 this.beside.replaceChildren(...(first && text ? [element('p', { class: 'quiet' }, say('table_kept'))] : []));
                 return;
             }
-            const told = await this.numbers([first, text]);
-            if (!told || round !== this.round) return;
+            const told = await this.told(this.numbers([first, text]));
+            if (!told) return;
             const numbers = told.map(Cnum.numberText);
             const found = Cnum.differences(first, text);
             const heads = ['operation_head', 'state_head', 'table_kept_head', 'table_now_head'].map(it => say(it));

@@ -52,6 +52,22 @@ var Cnum = globalThis.Cnum || {};
         return { names, arrows: kept.filter(it => it.lines.length) };
     };
 
+    // The same graph with some states as one. Of each { state, class } the class stands for the state, which may be itself, and
+    // no operation tells the two apart.
+    Cnum.mergedGraph = function ({ names, arrows }, merged) {
+        const classes = new Map(merged.map(it => [it.state, it.class]));
+        const classOf = name => classes.get(name) || name;
+        const kept = names.filter(it => classOf(it) === it);
+        const placeOf = name => kept.indexOf(classOf(name));
+        const joined = new Map();
+        for (const { from, to, lines } of arrows.filter(it => kept.includes(names[it.from]))) {
+            const ends = { from: placeOf(names[from]), to: placeOf(names[to]) };
+            const key = `${ends.from} ${ends.to}`;
+            joined.set(key, { ...ends, lines: [...(joined.has(key) ? joined.get(key).lines : []), ...lines] });
+        }
+        return { names: kept, arrows: [...joined.values()] };
+    };
+
     // The operations that a graph names, each once.
     Cnum.operationsOf = ({ arrows }) => [...new Set(arrows.flatMap(it => it.lines.map(({ operation }) => operation)))].sort();
 })();

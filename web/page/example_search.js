@@ -44,11 +44,17 @@ var Cnum = globalThis.Cnum || {};
         return [...new Set(ordered.map(Cnum.numberText))];
     };
 
+    // Both numbers of an example, or the one if they are the same.
+    Cnum.numbersText = function ({ read, unread }) {
+        const [number, without] = [read, unread].map(Cnum.numberText);
+        return number === without ? say('example_number', { number }) : say('example_numbers', { number, without });
+    };
+
     class ExampleSearch {
         // The field, the list and the choice of a number. `choose` is called with the path of an example, and
-        // `classify` gives the numbers of all examples.
+        // `classify` gives the numbers of all examples, { read, unread } each.
         constructor({ field, list, number }, { choose, classify }) {
-            Object.assign(this, { field, list, number, choose, classify, at: -1, numbers: null });
+            Object.assign(this, { field, list, number, choose, classify, at: -1, numbers: null, reads: true });
             this.index = Cnum.exampleIndex();
             field.addEventListener('focus', () => field.select());
             field.addEventListener('click', () => this.open());
@@ -77,16 +83,39 @@ var Cnum = globalThis.Cnum || {};
             this.numbers = new Map();
             const numbers = await this.classify(this.index.map(it => it.path));
             if (!numbers) return;
-            this.index.forEach(({ path }, place) => this.numbers.set(path, Cnum.numberText(numbers[place])));
-            this.number.append(...Cnum.kindsOf(numbers).map(it => element('option', { value: it }, it)));
+            this.index.forEach(({ path }, place) => this.numbers.set(path, numbers[place]));
+            this.offerNumbers();
             if (!this.list.hidden) this.open();
+        }
+
+        // Searches by the numbers of objects that can be read, or by those without reads.
+        searchBy(reads) {
+            if (reads === this.reads) return;
+            this.reads = reads;
+            if (this.numbers) this.offerNumbers();
+        }
+
+        offerNumbers() {
+            const [any] = this.number.children;
+            const numbers = [...this.numbers.values()].map(it => this.chosen(it));
+            this.number.replaceChildren(any, ...Cnum.kindsOf(numbers).map(it => element('option', { value: it }, it)));
+        }
+
+        chosen({ read, unread }) {
+            return this.reads ? read : unread;
+        }
+
+        // Whether an example is of the number that is wanted.
+        isOfNumber(path, wanted) {
+            const numbers = this.numbers.get(path);
+            return Boolean(numbers) && Cnum.numberText(this.chosen(numbers)) === wanted;
         }
 
         open() {
             this.begin();
             const wanted = this.number.value;
             const query = this.field.value === this.name ? '' : this.field.value;
-            const found = Cnum.foundExamples(this.index, query, path => !wanted || this.numbers.get(path) === wanted);
+            const found = Cnum.foundExamples(this.index, query, path => !wanted || this.isOfNumber(path, wanted));
             this.list.replaceChildren(...found.map((it, place) => this.option(it, place)));
             if (!found.length) this.list.append(element('li', { class: 'quiet' }, say('no_example')));
             this.list.hidden = false;
@@ -95,10 +124,10 @@ var Cnum = globalThis.Cnum || {};
         }
 
         option({ path, name, group, about }, place) {
-            const number = this.numbers && this.numbers.get(path);
+            const numbers = this.numbers && this.numbers.get(path);
             const parts = [
                 element('strong', {}, name),
-                ...(number ? [` ${say('example_number', { number })}`] : []),
+                ...(numbers ? [` ${Cnum.numbersText(numbers)}`] : []),
                 element('span', { class: 'group' }, group),
                 element('span', { class: 'about' }, about),
             ];

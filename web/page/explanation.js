@@ -5,39 +5,10 @@ var Cnum = globalThis.Cnum || {};
 (() => {
     'use strict';
 
-    const { button, element, marked, say, tableOf, wide } = Cnum;
+    const { button, element, say, tableOf, wide } = Cnum;
+    const { process, paragraph, head, tasks, witnessTable, run, asPrinted } = Cnum.reasonParts;
     const AT_ONCE = 100; // how many more collisions each demand shows
     const MOST_APART = 3; // more pairs of operations are no reason to remember
-
-    const process = place => `p${place}`;
-    const paragraph = (...words) => element('p', {}, ...marked(...words));
-    const head = (...words) => element('h3', {}, ...marked(...words));
-
-    // Processes that do the same, as far as they follow one another: { first, last } with what they do.
-    function grouped(processes, isSame) {
-        const groups = [];
-        processes.forEach((it, place) => {
-            const group = groups[groups.length - 1];
-            if (group && isSame(group, it)) group.last = place;
-            else groups.push({ ...it, first: place, last: place });
-        });
-        return groups;
-    }
-
-    function namesOf({ first, last }) {
-        if (first === last) return process(first);
-        return say(first + 1 === last ? 'two_processes' : 'more_processes', { first: process(first), last: process(last) });
-    }
-
-    const doing = it => say(it.first === it.last ? 'does' : 'do', { processes: namesOf(it), operation: it.operation });
-    const isSameTask = (a, b) => a.team === b.team && a.operation === b.operation;
-
-    // Who does what in a choice, team by team.
-    function tasks(processes) {
-        const groups = grouped(processes, isSameTask);
-        const ofTeam = team => groups.filter(it => it.team === team).map(doing).join(', ');
-        return ['A', 'B'].map(team => say('tasks_of_team', { team, tasks: ofTeam(team) })).join('; ');
-    }
 
     // Two operations by which each process knows which of them came first.
     function lasting(told) {
@@ -53,12 +24,8 @@ var Cnum = globalThis.Cnum || {};
 
     function witness(told) {
         if (!told) return [paragraph('why_one')];
-        const isSame = (a, b) => isSameTask(a, b) && ['a_first', 'b_first'].every(it => JSON.stringify(a[it]) === JSON.stringify(b[it]));
-        const list = its => element('ul', {}, ...its.map(it => element('li', {}, say('got', it))));
-        const rows = grouped(told.processes, isSame).map(it => [namesOf(it), it.operation, list(it.a_first), list(it.b_first)]);
-        const table = tableOf(['why_process', 'why_operation', 'why_A', 'why_B'].map(it => say(it)), rows, { class: 'pairs' });
         const words = { count: told.processes.length, start: told.start, tasks: tasks(told.processes) };
-        return [head('why_witness', words), wide(say('why_pairs'), table), paragraph('why_witness_end')];
+        return [head('why_witness', words), witnessTable(told.processes, it => say('got', it)), paragraph('why_witness_end')];
     }
 
     // What two operations at a time tell of the number.
@@ -69,24 +36,14 @@ var Cnum = globalThis.Cnum || {};
         return apart.length ? [paragraph('why_apart', { pairs })] : [];
     }
 
-    // A run of a collision: the states in a row, with an arrow between two of them for the operation.
-    function run({ steps, pair }, team, start, doubting) {
-        const part = (kind, ...content) => element('span', { class: kind }, ...content);
-        const parts = steps.flatMap(it => {
-            const kind = it.process === doubting ? 'step doubting' : 'step';
-            const answer = [part('hidden', say('answers')), part('response', it.response)];
-            return [part(kind, `${process(it.process)} ${it.operation}`, ...answer), part('state', it.state)];
-        });
-        const first = part(`first team-${team}`, say('team_first', { team }));
-        const end = part('end', say('got_at_end', { process: process(doubting), ...pair }));
-        return element('div', { class: 'run' }, first, part('state', start), ...parts, end);
-    }
-
     function collision(it, number) {
         const choice = say('collision_of', { start: it.start, tasks: tasks(it.processes) });
         const title = element('p', {}, `${choice} `, element('strong', {}, say('cannot_tell', { process: process(it.process) })));
-        const runs = [run(it.a_first, 'A', it.start, it.process), run(it.b_first, 'B', it.start, it.process)];
-        return element('li', { value: number }, title, ...runs);
+        const runOf = ({ steps, pair }, team) => {
+            const end = element('span', { class: 'end' }, say('got_at_end', { process: process(it.process), ...pair }));
+            return run(steps, team, it.start, it.process, end);
+        };
+        return element('li', { value: number }, title, runOf(it.a_first, 'A'), runOf(it.b_first, 'B'));
     }
 
     // The heading of the collisions of a choice for so many processes. It may be that no choice is left.
@@ -139,16 +96,6 @@ var Cnum = globalThis.Cnum || {};
         shown(told.collisions);
         label(told.more);
         return [list, more];
-    }
-
-    // The text that the program prints, once somebody asks for it.
-    function asPrinted(printed) {
-        const text = element('pre', { tabindex: 0 });
-        const whole = element('details', {}, element('summary', {}, say('as_printed')), text);
-        whole.addEventListener('toggle', async () => {
-            if (whole.open && !text.textContent) text.textContent = (await printed()) || '';
-        });
-        return whole;
     }
 
     // Shows an explanation in this place. On demand, `all` gives it with all collisions, and `printed` gives the text

@@ -11,7 +11,7 @@ var Cnum = globalThis.Cnum || {};
     const FIRST_EXAMPLE = 'types/test_and_set';
     const PROVED = /^(.*?), proved (by .*)\n$/;
     const CERTIFICATE = 'certificate';
-    const NO_NUMBER = '–';
+    const WITHOUT_READS = '--without-read';
     const MOST_PROCESSES = 8; // of a protocol
 
     const at = id => document.getElementById(id);
@@ -24,11 +24,15 @@ var Cnum = globalThis.Cnum || {};
             this.quick = new Cnum.Runner(module);
             this.search = new Cnum.Runner(module);
             this.adversary = new Cnum.Runner(module);
+            this.unread = new Cnum.Runner(module); // of searches for objects that are not read, which may take long
+            this.beside = new Cnum.Runner(module); // of comparisons
             this.round = 0;
             this.past = new Cnum.Past();
             this.certificate = '';
             this.limit = null; // what was chosen for the processes of the protocol, if fewer than the most
             this.comeBack = false; // whether the processes of the protocol crash and come back
+            this.reads = true; // whether reasons, comparisons and links are for objects that can be read
+            this.numbers = new Cnum.TwoNumbers({ choose: reads => this.chooseReads(reads), openWhy: reads => this.openReasons(reads) });
             this.editor = new Cnum.Editor(at('table'), at('marks'), at('flaws'));
             this.grid = new Cnum.Grid(at('grid'), text => this.edit(text));
             this.picture = new Cnum.PictureView(
@@ -37,17 +41,23 @@ var Cnum = globalThis.Cnum || {};
             );
             this.examples = new Cnum.ExampleSearch(
                 { field: at('example'), list: at('examples'), number: at('example-number') },
-                { choose: path => this.choose(path), classify: paths => this.numbersOf(paths.map(path => examples.get(path).text)) },
+                { choose: path => this.choose(path), classify: paths => this.bothNumbers(paths.map(path => examples.get(path).text)) },
             );
-            this.comparison = new Cnum.Comparison(at('comparison'), {
-                numbers: texts => this.numbersOf(texts),
-                pairs: async text => JSON.parse(await this.aside(['pairs', '--as', 'json', '-'], text)),
-                take: text => this.edit(text),
-                openWhy: text => this.openWhy(text),
-            });
+            this.comparison = new Cnum.Comparison(at('comparison'), this.forComparison());
             this.protocol = new Cnum.Protocol(at('protocol'), this.forProtocol());
             this.address = new Cnum.Address(this, pageWith);
             this.listen();
+        }
+
+        // What comparisons need of the page.
+        forComparison() {
+            return {
+                numbers: texts => this.numbersOf(this.beside, texts),
+                pairs: text => (this.reads ? this.pairsOf(text) : this.pairsWithoutReads(text)),
+                breakOff: () => this.beside.breakOff(),
+                take: text => this.edit(text),
+                openWhy: text => this.openWhy(text),
+            };
         }
 
         // What the protocol needs of the page.
@@ -95,6 +105,8 @@ var Cnum = globalThis.Cnum || {};
             });
             this.listenToUndo();
             at('break-off').addEventListener('click', () => this.breakOff());
+            at('break-off-without').addEventListener('click', () => this.breakOffUnread());
+            for (const it of document.querySelectorAll('.of-choice button')) it.addEventListener('click', () => this.chooseReads(!this.reads));
             const offers = {
                 download: () => ['json', this.certificate, 'application/json'],
                 'download-table': () => ['toml', this.text, 'application/toml'],
@@ -210,27 +222,53 @@ var Cnum = globalThis.Cnum || {};
         }
 
         // What a command prints beside those on the table that is shown. If it ends with a fault, the page says so, and
-        // the answer is null, as JSON.
-        async aside(words, stdin, files) {
-            const runner = new Cnum.Runner(this.module);
+        // the answer is null, as JSON; so it is if the command is broken off.
+        async aside(runner, words, stdin, files) {
             const answer = await runner.run(words, stdin, files);
-            runner.end();
             if (answer.status === 0) return answer.stdout;
-            this.notice(Cnum.inWords(answer));
+            if (!answer.isBrokenOff) this.notice(Cnum.inWords(answer));
             return 'null';
         }
 
-        // The numbers of these tables, or null.
-        async numbersOf(texts) {
+        // What `classify` tells of these tables, with these options; or null.
+        async classified(runner, texts, options) {
             const files = Object.fromEntries(texts.map((text, index) => [String(index), text]));
-            const values = Cnum.valuesOf(await this.aside(['classify', '--as', 'json', ...Object.keys(files)], '', files));
-            return values[0] && values.map(it => it.number);
+            const values = Cnum.valuesOf(await this.aside(runner, ['classify', ...options, '--as', 'json', ...Object.keys(files)], '', files));
+            return values[0] && values;
+        }
+
+        // The numbers of these tables, for objects that can be read or without reads, as is chosen; or null.
+        async numbersOf(runner, texts) {
+            const { reads } = this;
+            const values = await this.classified(runner, texts, reads ? [] : [WITHOUT_READS]);
+            return values && values.map(it => (reads ? it.number : it.without_read));
+        }
+
+        // The numbers of these tables as pairs, for objects that can be read and without reads; or null.
+        async bothNumbers(texts) {
+            const runner = new Cnum.Runner(this.module);
+            const values = await this.classified(runner, texts, [WITHOUT_READS]);
+            runner.end();
+            return values && values.map(it => ({ read: it.number, unread: it.without_read }));
+        }
+
+        // What `pairs` tells of a table, or null.
+        async pairsOf(text) {
+            return JSON.parse(await this.aside(this.beside, ['pairs', '--as', 'json', '-'], text));
+        }
+
+        // The same without reads. The command has no such option, so each table with one or two operations is classified.
+        async pairsWithoutReads(text) {
+            const sets = Cnum.setsUpToTwo(text);
+            const numbers = await this.numbersOf(this.beside, [text, ...sets.map(it => it.text)]);
+            return numbers && Cnum.pairsToldBy(sets, numbers);
         }
 
         // Shows what a link says. If it has no limit, there are as many processes as it has inputs. Those that come back may
         // be fewer than those of why.
         async showLinked(linked) {
             this.comeBack = at('come-back').checked = Boolean(linked.comeBack);
+            this.reads = linked.reads !== false;
             this.limit = linked.limit || (linked.inputs.length > 1 && !linked.comeBack ? linked.inputs.length : null);
             this.text = linked.text === undefined ? examples.get(linked.example || FIRST_EXAMPLE).text : linked.text;
             await this.refresh(linked);
@@ -240,15 +278,14 @@ var Cnum = globalThis.Cnum || {};
         linkContent() {
             const example = this.example();
             const { inputs } = this.protocol;
-            const { text, limit, comeBack } = this;
-            return { example: example && example.path, text, limit, comeBack, inputs, acts: this.protocol.actsSoFar() };
+            const { text, limit, comeBack, reads } = this;
+            return { example: example && example.path, text, limit, comeBack, reads, inputs, acts: this.protocol.actsSoFar() };
         }
 
         // Ends what runs, so that nothing is shown any more.
         end() {
             this.round++;
-            this.search.breakOff();
-            this.adversary.breakOff();
+            for (const it of [this.search, this.adversary, this.unread, this.beside]) it.breakOff();
             this.protocol.end();
         }
 
@@ -280,6 +317,7 @@ var Cnum = globalThis.Cnum || {};
             this.forget(isTable ? '' : say('no_number'));
             this.comparison.show(isTable ? this.table : '');
             if (isTable && this.address.view === 'pairs') this.comparison.pair();
+            this.tellChoice();
             if (isTable) await this.find(linked);
             if (!at('content').hidden) await this.address.keep();
         }
@@ -288,8 +326,9 @@ var Cnum = globalThis.Cnum || {};
         forget(why) {
             clearTimeout(this.early);
             this.certificate = '';
-            at('number').textContent = NO_NUMBER;
-            at('meaning').textContent = why;
+            this.numbers.clear(why);
+            this.reasons = new Map(); // what `why` told of the numbers, by whether the object can be read
+            at('running').hidden = at('running-without').hidden = true;
             at('why').replaceChildren();
             this.picture.clear();
             at('claim-said').textContent = '';
@@ -313,14 +352,34 @@ var Cnum = globalThis.Cnum || {};
 
         // Finds the number, and shows it, and then the evidence.
         async showNumber(linked) {
-            at('meaning').textContent = say('searching');
+            this.numbers.say(true, say('searching'));
+            const unread = this.showUnread();
             const classify = await this.found(['classify', '--as', 'json', '-']);
             if (!classify) return;
-            this.tellNumber(JSON.parse(classify.stdout).number);
+            this.numbers.tell(true, JSON.parse(classify.stdout).number);
             const hasEvidence = await this.showEvidence();
             if (hasEvidence && !this.comeBack) await this.showProtocol(linked);
             const recoverable = await this.showRecoverable();
             if (recoverable && this.comeBack) await this.showLives(linked, recoverable);
+            if (!this.reads) await unread;
+        }
+
+        // Finds the number without reads, in a worker of its own, since that may take long. Shows it, and why, if it is chosen.
+        async showUnread() {
+            this.numbers.say(false, say('searching'));
+            const answer = await this.askUnread(['classify']);
+            if (!answer) return;
+            if (answer.status !== 0) {
+                this.numbers.say(false, Cnum.inWords(answer));
+                return;
+            }
+            this.numbers.tell(false, JSON.parse(answer.stdout).without_read);
+            if (!this.reads) await this.showUnreadReasons();
+        }
+
+        // What a command tells without reads, as JSON.
+        askUnread(words) {
+            return this.timed(this.ask(this.unread, [...words, WITHOUT_READS, '--as', 'json', '-']), at('running-without'));
         }
 
         // Finds the recoverable number, and shows it.
@@ -344,19 +403,77 @@ var Cnum = globalThis.Cnum || {};
             return null;
         }
 
-        // Finds the certificate for as many processes as the program can, or as were chosen, and shows why. The answer
-        // is whether there is one.
+        // Finds the certificate for as many processes as the program can, or as were chosen, and shows why, if the number for
+        // objects that can be read is chosen. The answer is whether there is evidence.
         async showEvidence() {
             const most = await this.found(['find']);
             const find = most && (await this.findChosen(most));
             if (!find) return false;
             this.certificate = find.stdout;
             at('download').disabled = false;
-            const why = await this.found(this.whyWords('--as', 'json'));
-            if (!why) return false;
-            Cnum.showExplanation(at('why'), JSON.parse(why.stdout), { all: () => this.explainAll(), printed: () => this.printedWhy() });
+            return !this.reads || this.showReasons();
+        }
+
+        // Shows why the number for objects that can be read is what it is. The answer is whether the program tells it.
+        async showReasons() {
+            if (!this.reasons.has(true)) {
+                const why = await this.found(this.whyWords('--as', 'json'));
+                if (!why) return false;
+                this.reasons.set(true, JSON.parse(why.stdout));
+            }
+            if (!this.reads) return true;
+            Cnum.showExplanation(at('why'), this.reasons.get(true), { all: () => this.explainAll(), printed: () => this.printedWhy() });
             Cnum.explainWords(at('why'));
             return true;
+        }
+
+        // The same without reads.
+        async showUnreadReasons() {
+            if (!this.reasons.has(false)) {
+                const why = await this.askUnread(['why', '--all']);
+                if (!why) return;
+                this.reasons.set(false, why.status === 0 ? JSON.parse(why.stdout) : null);
+            }
+            if (this.reads) return;
+            const told = this.reasons.get(false);
+            const graph = told && Cnum.mergedGraph(this.graph, told.merged);
+            const picture = ({ start, processes }) => Cnum.pictureOf(graph, { start, roles: processes });
+            Cnum.showUnreadExplanation(at('why'), told, { picture, printed: () => this.printedUnread() });
+            Cnum.explainWords(at('why'));
+            if (told) this.redraw();
+        }
+
+        // Takes the choice of a reader: objects that can be read, or not.
+        chooseReads(reads) {
+            this.reads = reads;
+            this.tellChoice();
+            at('why').replaceChildren();
+            if (at('picture').firstElementChild) this.redraw();
+            if (reads && this.certificate) this.showReasons();
+            if (!reads && this.numbers.has(false)) this.showUnreadReasons();
+            if (this.certificate) this.offerLimits();
+            this.comparison.again();
+            this.address.keepSoon();
+        }
+
+        // Shows the reasons of one of the two numbers where the reader looks.
+        openReasons(reads) {
+            if (reads !== this.reads) this.chooseReads(reads);
+            at('why-part').scrollIntoView();
+            at('why-part').focus();
+        }
+
+        // Says for which of the two numbers the parts of the page are, with a button for the other one.
+        tellChoice() {
+            const { reads } = this;
+            this.numbers.choose(reads);
+            this.examples.searchBy(reads);
+            for (const it of document.querySelectorAll('.of-choice')) {
+                it.firstElementChild.textContent = say(reads ? 'of_readable' : 'of_unread');
+                it.lastElementChild.textContent = say(reads ? 'show_unread' : 'show_readable');
+                it.classList.toggle('unread', !reads);
+            }
+            at('protocol-of').hidden = reads;
         }
 
         // The certificate for the chosen processes, if they are fewer than those of this one.
@@ -369,14 +486,20 @@ var Cnum = globalThis.Cnum || {};
 
         // Says for how many processes why and the protocol are, and lets one choose fewer. Those that come back may be others.
         offerLimits() {
-            const { most, limit, number } = this;
+            const { most, limit } = this;
             const options = Array.from({ length: most - 1 }, (_, index) => element('option', {}, String(index + 2)));
             at('limit').replaceChildren(...options);
             at('limit').value = limit || most;
             at('limit-part').hidden = most < 3;
-            const key = limit ? 'evidence_chosen' : most < Cnum.mostOf(number) ? 'evidence_most' : 'evidence_whole';
-            const parts = say(this.comeBack ? 'evidence_why' : 'evidence_parts');
-            at('limit-said').textContent = most === 1 ? '' : say(key, { parts, count: limit || most, most });
+            const key = limit ? 'evidence_chosen' : most < Cnum.mostOf(this.numbers.of(true)) ? 'evidence_most' : 'evidence_whole';
+            const parts = this.partsOfEvidence();
+            at('limit-said').textContent = most === 1 || !parts ? '' : say(key, { parts: say(parts), count: limit || most, most });
+        }
+
+        // Which parts of the page are by the certificate.
+        partsOfEvidence() {
+            if (this.comeBack) return this.reads ? 'evidence_why' : '';
+            return this.reads ? 'evidence_parts' : 'evidence_protocol';
         }
 
         // The words that ask why the number is what it is, as far as was chosen.
@@ -388,7 +511,7 @@ var Cnum = globalThis.Cnum || {};
         // Says why there is no evidence, and so no protocol.
         refuse(why) {
             this.draw(null);
-            at('why').replaceChildren(element('p', {}, why));
+            if (this.reads) at('why').replaceChildren(element('p', {}, why));
             this.protocol.clear(why);
         }
 
@@ -457,43 +580,54 @@ var Cnum = globalThis.Cnum || {};
             return runs;
         }
 
-        // The picture, with the start and the teams of this plan, if there is one.
+        // The picture, with the start and the teams of this plan of the protocol, if there is one.
         draw(plan) {
             clearTimeout(this.early);
+            this.plan = plan;
+            this.redraw();
+        }
+
+        // The same for the number that is chosen: without reads, with those of its witness.
+        redraw() {
+            const plan = this.reads ? this.plan : this.unreadPlan();
             this.picture.show(this.graph, plan);
             at('legend').hidden = !plan;
             at('picture-svg').disabled = at('picture-png').disabled = false;
         }
 
+        unreadPlan() {
+            const { witness } = this.reasons.get(false) || {};
+            return witness ? { start: witness.start, roles: witness.processes } : null;
+        }
+
         // Shows that a search runs, and for how long, until it ends.
-        async timed(search) {
+        async timed(search, running = at('running')) {
             const began = performance.now();
             const seconds = () => ((performance.now() - began) / 1000).toFixed(1);
             const tick = setInterval(() => {
-                at('running').hidden = false;
-                at('elapsed').textContent = say('running', { seconds: seconds() });
+                running.hidden = false;
+                running.firstElementChild.textContent = say('running', { seconds: seconds() });
             }, 100);
             const round = this.round;
             try {
                 return await search;
             } finally {
                 clearInterval(tick);
-                if (round === this.round) at('running').hidden = true;
+                if (round === this.round) running.hidden = true;
             }
         }
 
         breakOff() {
             this.search.breakOff();
-            if (at('number').textContent === NO_NUMBER) at('meaning').textContent = say('search_broken_off');
+            if (!this.numbers.has(true)) this.numbers.say(true, say('search_broken_off'));
             else if (this.comeBack && this.certificate) this.refuseLives(say('search_broken_off'));
             else this.refuse(say('certificate_broken_off'));
         }
 
-        // Tells a number, that there is no greatest, or a range in which the number is.
-        tellNumber(number) {
-            this.number = number;
-            at('number').textContent = Cnum.numberText(number);
-            at('meaning').textContent = meaningOf(number);
+        breakOffUnread() {
+            this.unread.breakOff();
+            if (!this.numbers.has(false)) this.numbers.say(false, say('search_broken_off'));
+            else if (!this.reads) at('why').replaceChildren(element('p', {}, say('search_broken_off')));
         }
 
         async explainAll() {
@@ -504,8 +638,11 @@ var Cnum = globalThis.Cnum || {};
         }
 
         async printedWhy() {
-            const answer = await this.ask(this.search, this.whyWords());
-            return answer && (answer.status === 0 ? answer.stdout : Cnum.inWords(answer));
+            return printed(await this.ask(this.search, this.whyWords()));
+        }
+
+        async printedUnread() {
+            return printed(await this.ask(this.unread, ['why', WITHOUT_READS, '-']));
         }
 
         agree(runner, words) {
@@ -535,14 +672,8 @@ var Cnum = globalThis.Cnum || {};
         }
     }
 
-    // What a number says, or a range of numbers.
-    function meaningOf(number) {
-        if (number === 'infinite') return say('any_together', { how: say('how') });
-        const least = Cnum.leastOf(number);
-        const can = least === 1 ? say('alone') : say('together', { count: least, how: say('how') });
-        const most = Cnum.mostOf(number);
-        return [can, say('no_more', { count: most + 1 }), ...(most > least ? [say('too_long')] : [])].join(' ');
-    }
+    // What the program prints, or why it does not.
+    const printed = answer => answer && (answer.status === 0 ? answer.stdout : Cnum.inWords(answer));
 
     // What a key undoes: -1 for undo, 1 for redo, 0 for none.
     function undoKey({ key, ctrlKey, metaKey, shiftKey, altKey }) {

@@ -1,6 +1,6 @@
 -- What is enough in a table, and what bounds it, hold of each type whose states are merged to those of
 -- the table.
-use Rattle.std.proofs.Common.{◌≡◌, ℕ, zero, suc, ◌+◌, ◌<◌, ◌≤◌, inl, inr, length, subst, arith}
+use Rattle.std.proofs.Common.{ℕ, zero, suc, ◌+◌, ◌<◌, ◌≤◌, inl, inr, length, arith}
 use Rattle.cn_table.specs.TypeTable.{IsClosed, TypeTable}
 use Rattle.cn_consensus.specs.Consensus.{IsConsensusProtocol}
 use Rattle.cn_consensus.specs.Protocol.{IsProtocolOf, Protocol}

@@ -1,5 +1,6 @@
 pub mod Below
 pub mod Bounds
+pub mod BoundsTexts
 pub mod CollectNodes
 pub mod Collecting
 pub mod CriticalChoices
@@ -13,6 +14,7 @@ pub mod Groups
 pub mod Images
 pub mod Joining
 pub mod Judging
+pub mod Marks
 pub mod MergedTypes
 pub mod OneProcess
 pub mod Pairs

@@ -1,6 +1,6 @@
 -- What bounds of a number without reads say of all protocols.
 -- Source: Herlihy, Wait-free synchronization, 1991: consensus numbers. Without reads: new here.
-use Rattle.std.specs.Prelude.{ℕ, ◌≤◌, ◌<◌}
+use Rattle.std.specs.Prelude.{ℕ, ◌≤◌, ◌<◌, ◌^◌}
 use Rattle.cn_table.specs.TypeTable.{TypeTable}
 use Rattle.cn_consensus.specs.Consensus.{IsConsensusProtocol}
 use Rattle.cn_consensus.specs.Protocol.{IsProtocolOf, Protocol}
@@ -24,3 +24,10 @@ AreBoundsOf L V t (Exactly n) = IsUnreadNumber L V t n
 AreBoundsOf L V t Infinite = (n : ℕ) → 1 ≤ n → SolvesWithoutReads t n
 AreBoundsOf L V t (Between least most) = SolvesWithoutReads t least × NoneAbove L V t most
 AreBoundsOf L V t (AtLeast least) = SolvesWithoutReads t least
+
+-- the numbers are below 2^64
+abbrev pub AreSmall : NumberBounds → Type 0
+AreSmall (Exactly n) = n < 2 ^ 64
+AreSmall Infinite = Unit {0}
+AreSmall (Between least most) = (least < 2 ^ 64) × (most < 2 ^ 64)
+AreSmall (AtLeast least) = least < 2 ^ 64

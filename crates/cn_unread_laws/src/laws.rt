@@ -22,8 +22,12 @@ ghost use Rattle.cn_unread.specs.Nodes.{IsNode, IsTellingNode, Node};
 ghost use Rattle.cn_unread.specs.Signs.{AreSigns, Signs};
 ghost use Rattle.cn_unread.specs.Views.{IsViewDiscerning};
 ghost use Rattle.cn_unread_number.specs.Bounds.{HasUnreadNumber};
+ghost use Rattle.cn_unread_number.specs.BoundsText.{bounds_text};
+ghost use Rattle.cn_unread_number.specs.Evidence.{AreShown};
 ghost use Rattle.cn_unread_number.specs.declared.bounds.NumberBounds.{NumberBounds};
-ghost use Rattle.cn_unread_laws.specs.Bounds.{AreBoundsOf};
+ghost use Rattle.cn_unread_number.specs.declared.evidence.LeastEvidence.{LeastEvidence};
+ghost use Rattle.cn_unread_number.specs.declared.evidence.MostEvidence.{MostEvidence};
+ghost use Rattle.cn_unread_laws.specs.Bounds.{AreBoundsOf, AreSmall};
 ghost use Rattle.cn_unread_laws.specs.Merging.{merged};
 ghost use Rattle.cn_unread_laws.specs.Reads.{IsWithoutReads, NeverReads};
 ghost use Rattle.cn_unread_laws.specs.Solving.{IsUnreadNumber, SolvesWithoutReads};
@@ -35,6 +39,7 @@ use cn_proto::laws::tournaments_are_sound;
 use cn_solvable::laws::{solving_is_discerning, witness_is_enough};
 use cn_table::laws::tables_are_closed;
 use cn_unread::laws::{added_reads, lasting_responses_tell_any_number, queue_of_one};
+use cn_unread_number::laws::shown_bounds_hold;
 
 /// Consensus needs a choice that is a witness, and defended where the protocol does not read: where
 /// some protocol solves wait-free consensus for n processes, 2 or more, from registers and objects
@@ -264,6 +269,29 @@ pub fn found_bounds_hold<L, V>()
     nodes_are_enough();
     signs_are_enough();
     tables_are_closed();
+}
+
+/// The text of bounds tells them: where it is the text of the answer for a table, the bounds hold of
+/// all protocols without reads. The numbers are below 2^64.
+pub fn bounds_are_told<L, V>()
+    // promise: number-without-reads (bounds_text, AreSmall)
+    ensures { (t : TypeTable) (found bounds : NumberBounds) → IsTypeTable t
+        → HasUnreadNumber t found → AreSmall found → AreSmall bounds
+        → bounds_text found ≡ bounds_text bounds → AreBoundsOf L V t bounds }
+{
+    found_bounds_hold::<L, V>();
+}
+
+/// Evidence is enough: bounds that it shows of a type to which the states of another are merged hold
+/// of all protocols without reads over the other.
+pub fn evidence_is_enough<L, V>()
+    // promise: number-without-reads (AreShown, AreBoundsOf)
+    ensures { (h : ℕ → ℕ) (t u : TypeTable) (low : LeastEvidence) (high : MostEvidence)
+        (bounds : NumberBounds) → IsTypeTable t → IsTypeTable u → IsMerged h t u
+        → AreShown u low high bounds → AreBoundsOf L V t bounds }
+{
+    shown_bounds_hold();
+    found_bounds_hold::<L, V>();
 }
 
 /// A type has only one number without reads.
