@@ -7,14 +7,21 @@ use Rattle.cn_reasons.specs.declared.lasting.LastingWitness.{LastingWitness}
 use Rattle.cn_sentences.specs.States.{states_told}
 use Rattle.cn_markdown.specs.Rows.{name_rule}
 
+-- the operation of a single process, and that of all others, with words for their teams
+unfoldable pub single_start : List ℕ → List ℕ → List ℕ → List ℕ → List ℕ → List ℕ
+single_start start single team many others =
+    codes "Any number of processes: from state " ++ (start ++ (codes ", one" ++ (team
+    ++ (codes " does " ++ (single ++ (codes ", and all others" ++ (others ++ (codes " do "
+    ++ (many ++ (codes "." ++ []))))))))))
+
 -- the operations, and the head of the table
 unfoldable pub lasting_start : TypeTable → LastingWitness → List ℕ
 lasting_start t l =
-    codes "Any number of processes: from state " ++ (name_at t.states l.lasting.start.0
-    ++ (codes ", one does " ++ (name_at (operation_names t) l.lasting.single.0
-    ++ (codes ", and all others do " ++ (name_at (operation_names t) l.lasting.many.0
-    ++ (codes ". No state is in both rows, so each can tell which came first.\n\n"
-    ++ (codes "| First | The state is one of |\n" ++ [])))))))
+    let single = name_at (operation_names t) l.lasting.single.0 in
+    let many = name_at (operation_names t) l.lasting.many.0 in
+    single_start (name_at t.states l.lasting.start.0) single [] many []
+    ++ (codes " No state is in both rows, so each can tell which came first.\n\n"
+    ++ (codes "| First | The state is one of |\n" ++ []))
 
 -- the row of the operation that came first, with words for it, and the states that are left then
 unfoldable pub first_row : TypeTable → ℕ → List ℕ → List State → List ℕ

@@ -6,3 +6,4 @@ pub mod Witness
 pub mod Lasting
 pub mod Explanation
 pub mod Recoverable
+pub mod Unread

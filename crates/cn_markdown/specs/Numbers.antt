@@ -19,6 +19,10 @@ numbers_head recoverable without_read = head_of (number_heads recoverable withou
 abbrev pub recoverable_head : List ℕ
 recoverable_head = head_of (codes "Type" ∷ codes "Recoverable consensus number" ∷ [])
 
+-- the head where the number without reads stands alone
+abbrev pub unread_head : List ℕ
+unread_head = head_of (codes "Type" ∷ codes "Consensus number without reads" ∷ [])
+
 -- the cells of a type: its name and its number, and its recoverable number and its number without
 -- reads if these are told
 abbrev pub number_cells : List ℕ → List ℕ → Option (List ℕ) → Option (List ℕ) → List (List ℕ)

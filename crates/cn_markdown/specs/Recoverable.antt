@@ -54,9 +54,12 @@ witness_markdown t (Some w) = witness_table t w
 
 -- ---- why it is no more
 
+abbrev pub each_number_line : List ℕ
+each_number_line = codes "It is so for each number of processes.\n"
+
 -- with no refutation: that it is so for each number, or that the choices are not listed
 abbrev pub not_refuted : ConsensusNumber → List ℕ
-not_refuted Infinite = codes "It is so for each number of processes.\n"
+not_refuted Infinite = each_number_line
 not_refuted (Finite n) = no_list_line (n + 1)
 not_refuted (Between least most) = no_list_line (most + 1)
 

@@ -73,7 +73,7 @@ fn rule_start(rule: Rule) -> &'static str
 }
 
 #[tactic(auto, unfolding(crate::specs::Explanation::rule_line))]
-fn push_rule_line(text: &mut String, rule: Rule) -> Result<(), AllocError>
+pub(crate) fn push_rule_line(text: &mut String, rule: Rule) -> Result<(), AllocError>
     ensures { OnOk result (string_bytes text.new ≡ string_bytes text.old ++ rule_line rule) }
 {
     let (start, most) = (rule_start(rule), rule.most());

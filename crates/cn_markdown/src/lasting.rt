@@ -1,7 +1,7 @@
 //! Operations that last in Markdown, with the states that each leaves.
 ghost use Rattle.std.specs.Prelude.{◌≡◌, ◌<◌, ◌++◌, All, OnOk, length, string_bytes};
 ghost use Rattle.cn_reasons.specs.Known.{IsKnownLasting, IsKnownState};
-ghost use Rattle.cn_markdown.specs.Lasting.{first_row, lasting_start, lasting_table};
+ghost use Rattle.cn_markdown.specs.Lasting.{first_row, lasting_start, lasting_table, single_start};
 
 use crate::rows::push_name_rule;
 use cn_pieces::push_pieces;
@@ -9,6 +9,38 @@ use cn_reasons::LastingWitness;
 use cn_sentences::push_states;
 use cn_table::{Operation, State, Table};
 use std::alloc::AllocError;
+
+/// The operation of a single process from a state, and that of all others, with words for their
+/// teams.
+#[tactic(auto, unfolding(crate::specs::Lasting::single_start))]
+pub(crate) fn push_single_start(
+    text: &mut String,
+    start: &str,
+    single: &str,
+    team: &str,
+    many: &str,
+    others: &str,
+) -> Result<(), AllocError>
+    ensures { OnOk result (string_bytes text.new ≡ string_bytes text.old
+        ++ single_start start.now single.now team.now many.now others.now) }
+{
+    push_pieces(
+        text,
+        &[
+            "Any number of processes: from state ",
+            start,
+            ", one",
+            team,
+            " does ",
+            single,
+            ", and all others",
+            others,
+            " do ",
+            many,
+            ".",
+        ],
+    )
+}
 
 /// The operations, and the head of the table.
 #[tactic(auto, unfolding(crate::specs::Lasting::lasting_start))]
@@ -27,16 +59,11 @@ fn push_lasting_start(
         table.operation_name(lasting.single),
         table.operation_name(lasting.many),
     );
+    push_single_start(text, start, single, "", many, "")?;
     push_pieces(
         text,
         &[
-            "Any number of processes: from state ",
-            start,
-            ", one does ",
-            single,
-            ", and all others do ",
-            many,
-            ". No state is in both rows, so each can tell which came first.\n\n",
+            " No state is in both rows, so each can tell which came first.\n\n",
             "| First | The state is one of |\n",
         ],
     )

@@ -1,9 +1,9 @@
 //! Numbers of types, and why they are what they are, in Markdown.
 //!
 //! [`number_head`] and [`number_row`] answer the head and the rows of a table of types and their
-//! numbers. [`explanation_markdown`] and [`recoverable_explanation_markdown`] tell why a number is
-//! what it is, and [`pairs_table`] has the numbers of pairs of operations. Each text is a function of
-//! the values that it shows.
+//! numbers. [`explanation_markdown`], [`recoverable_explanation_markdown`] and
+//! [`unread_explanation_markdown`] tell why a number is what it is, and [`pairs_table`] has the numbers
+//! of pairs of operations. Each text is a function of the values that it shows.
 //!
 //! ```text
 //! print!(rt; "{}", number_head(alloc, false, false)?)?;
@@ -19,9 +19,11 @@ mod pairs;
 mod recoverable;
 mod rows;
 mod type_table;
+mod unread;
 mod witness;
 
 pub use explanation::explanation_markdown;
 pub use numbers::{number_head, number_row};
 pub use pairs::pairs_table;
 pub use recoverable::recoverable_explanation_markdown;
+pub use unread::unread_explanation_markdown;

@@ -1,6 +1,6 @@
 //! A Markdown table of types and their numbers.
 ghost use Rattle.std.specs.Prelude.{◌≡◌, ◌++◌, IfOk, OnOk, flat_map, option_map, option_to_list, string_bytes};
-ghost use Rattle.cn_markdown.specs.Numbers.{numbers_head, numbers_row, recoverable_head};
+ghost use Rattle.cn_markdown.specs.Numbers.{numbers_head, numbers_row, recoverable_head, unread_head};
 ghost use Rattle.cn_markdown.specs.Rows.{cell};
 
 use crate::rows::push_cell;
@@ -26,6 +26,13 @@ pub(crate) fn recoverable_head() -> &'static str
     ensures { result.now ≡ recoverable_head }
 {
     "| Type | Recoverable consensus number |\n| --- | ---: |\n"
+}
+
+/// The head where the number without reads stands alone.
+pub(crate) fn unread_head() -> &'static str
+    ensures { result.now ≡ unread_head }
+{
+    "| Type | Consensus number without reads |\n| --- | ---: |\n"
 }
 
 /// The head of a Markdown table of types and their numbers, with the line below it: a column for

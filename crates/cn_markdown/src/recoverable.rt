@@ -5,7 +5,7 @@ ghost use Rattle.cn_reasons.specs.Known.{IsKnownGroup, IsKnownRecording, IsKnown
 ghost use Rattle.cn_reasons.specs.Recoverable.{IsRecoverableExplanation};
 ghost use Rattle.cn_markdown.specs.Explanation.{start};
 ghost use Rattle.cn_markdown.specs.Numbers.{recoverable_head};
-ghost use Rattle.cn_markdown.specs.Recoverable.{no_more, not_refuted, recoverable_markdown, start_place, team_row, witness_markdown, witness_start, witness_table};
+ghost use Rattle.cn_markdown.specs.Recoverable.{each_number_line, no_more, not_refuted, recoverable_markdown, start_place, team_row, witness_markdown, witness_start, witness_table};
 
 use crate::explanation::{push_choices_line, push_no_list_line, push_start};
 use crate::numbers::recoverable_head;
@@ -113,12 +113,19 @@ fn push_witness(
     }
 }
 
+/// That there is no greatest number.
+pub(crate) fn each_number_line<'a>() -> &'a str
+    ensures { result.now ≡ each_number_line }
+{
+    "It is so for each number of processes.\n"
+}
+
 /// Why the number is no more, with no refutation.
 fn push_not_refuted(text: &mut String, number: ConsensusNumber) -> Result<(), AllocError>
     ensures { OnOk result (string_bytes text.new ≡ string_bytes text.old ++ not_refuted number) }
 {
     match number {
-        ConsensusNumber::Infinite => text.push_str("It is so for each number of processes.\n"),
+        ConsensusNumber::Infinite => text.push_str(each_number_line()),
         ConsensusNumber::Finite(n) => push_no_list_line(text, n as u16 + 1),
         ConsensusNumber::Between(_, most) => push_no_list_line(text, most as u16 + 1),
     }

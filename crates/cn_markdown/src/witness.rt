@@ -25,7 +25,11 @@ fn push_sights(text: &mut String, table: &Table, seen: &[Sight]) -> Result<(), A
 
 /// How many processes a group has, its team, and its operation.
 #[tactic(auto, unfolding(crate::specs::Witness::group_cells))]
-fn push_group_cells(text: &mut String, table: &Table, group: Group) -> Result<(), AllocError>
+pub(crate) fn push_group_cells(
+    text: &mut String,
+    table: &Table,
+    group: Group,
+) -> Result<(), AllocError>
     requires { IsKnownGroup table.now group }
     ensures { OnOk result (string_bytes text.new
         ≡ string_bytes text.old ++ group_cells table.now group) }

@@ -4,3 +4,4 @@ pub mod Numbers
 pub mod Smallest
 pub mod States
 pub mod Triangle
+pub mod Unread

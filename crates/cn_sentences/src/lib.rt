@@ -1,5 +1,6 @@
 //! What a text for people and a Markdown document say in the same words: the processes of a group,
-//! states, numbers, some whole lines, and the cells of a triangle of pairs of operations.
+//! states, numbers, some whole lines, sentences on numbers without reads, and the cells of a triangle
+//! of pairs of operations.
 //!
 //! Each function writes behind the text so far, or answers a text, and each text is a function of the
 //! values that it shows. By [`laws::cells_tell_numbers`] the cells of a triangle tell the numbers of
@@ -19,6 +20,7 @@ mod numbers;
 mod smallest;
 mod states;
 mod triangle;
+mod unread;
 
 pub use groups::{process_name, push_members, push_processes};
 pub use lines::{alone_line, push_limit_line, push_reader};
@@ -26,3 +28,7 @@ pub use numbers::number_words;
 pub use smallest::push_smallest;
 pub use states::push_states;
 pub use triangle::triangle_of;
+pub use unread::{
+    open_line, push_merged, push_next_steps, push_sign_search, push_undecided, push_unread_sight,
+    telling_line,
+};

@@ -4,7 +4,8 @@ use Rattle.std.specs.Prelude.{String, Vec}
 use Rattle.std.specs.declared.alloc.Global.{Global}
 use Rattle.cn_table.specs.DraftView.{texts_view}
 use Rattle.cn_sentences.specs.Triangle.{rows_of}
-use Rattle.cn_text.specs.PairLines.{text_at, width}
+use Rattle.cn_text.specs.Columns.{text_at}
+use Rattle.cn_text.specs.PairLines.{width}
 
 width_suc : (rows : List (Vec (String Global) Global)) (column k : ℕ) (row : Vec (String Global) Global) → k < length rows → row ≡ get_or rows k row
     → width (rows_of (take (suc k) rows)) column ≡ max (width (rows_of (take k rows)) column) (length (text_at (texts_view row) column))

@@ -19,11 +19,12 @@ use Rattle.cn_reasons.specs.declared.witness.Witness.{Witness}
 use Rattle.cn_sentences.specs.Lines.{alone_line, limit_line}
 use Rattle.cn_sentences.specs.Numbers.{number_words}
 use Rattle.cn_text.specs.Folded.{folded}
-use Rattle.cn_text.specs.Reasons.{each_number_line, example_line, no_list, start_text, states_line}
-use Rattle.cn_text.specs.Reasons.{ways_end, ways_words, witness_line}
+use Rattle.cn_text.specs.Reasons.{each_number_line, example_line, no_list, single_line, start_text}
+use Rattle.cn_text.specs.Reasons.{states_line, ways_end, ways_words, witness_line}
 use Rattle.cn_text.specs.Views.{views_text}
 use Rattle.cn_text.specs.Ways.{numbered, way_text}
 use Rattle.cn_text.specs.declared.limits.TheConstants.{MOST_APART}
+use Rattle.cn_text.specs.declared.reasons.NumberKind.TheVariants.{Readable}
 
 -- ---- why it is so much
 
@@ -31,12 +32,11 @@ unfoldable pub lasting_text : TypeTable → LastingWitness → List ℕ
 lasting_text t l =
     let single = name_at (operation_names t) l.lasting.single.0 in
     let many = name_at (operation_names t) l.lasting.many.0 in
-    codes "Why infinite: from state " ++ (name_at t.states l.lasting.start.0
-    ++ (codes ", one process does " ++ (single ++ (codes ", and any number of others do "
-    ++ (many ++ (codes ".\n" ++ (states_line t single (codes " first") l.single_states.items
+    single_line (name_at t.states l.lasting.start.0) single [] many []
+    ++ (states_line t single (codes " first") l.single_states.items
     ++ (states_line t many (codes " first, or no step yet") l.many_states.items
     ++ (codes "  No state is in both lists, so each process can tell which came first, however many there are.\n"
-    ++ [])))))))))
+    ++ [])))
 
 -- the operations that last, if they are told
 abbrev pub lasting_part : TypeTable → Option LastingWitness → List ℕ
@@ -51,7 +51,7 @@ example_part (UpTo limit number) m = []
 -- the witness, and what its processes can see
 unfoldable pub witness_text : TypeTable → Witness → List ℕ
 witness_text t w =
-    folded (witness_line t w.processes w.choice) ++ (views_text t w.views.items
+    folded (witness_line t w.processes w.choice) ++ (views_text t w.choice w.views.items
     ++ (codes "  No process has a pair on both sides, so each can tell which team was first.\n" ++ []))
 
 abbrev pub why : TypeTable → TypeNumber → Option Witness → List ℕ
@@ -156,5 +156,5 @@ reasons_text e =
 -- the text of an explanation
 unfoldable pub explanation_text : Explanation → List ℕ
 explanation_text e =
-    start_text e.table (codes "consensus number") (number_words (codes " (the limit)") e.number)
+    start_text e.table Readable (number_words (codes " (the limit)") e.number)
     ++ (reasons_text e ++ [])

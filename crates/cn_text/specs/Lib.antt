@@ -4,7 +4,11 @@ pub mod Explanation
 pub mod Folded
 pub mod Grid
 pub mod PairLines
+pub mod Plays
 pub mod Reasons
 pub mod Recoverable
+pub mod Sides
+pub mod Unread
+pub mod UnreadViews
 pub mod Views
 pub mod Ways

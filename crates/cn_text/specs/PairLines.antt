@@ -1,17 +1,13 @@
 -- The numbers of pairs of operations for people.
-use Rattle.std.specs.Prelude.{codes, ℕ, ◌==◌, List, [], ◌++◌, length, map, flat_map, slice_get}
-use Rattle.std.specs.Prelude.{unwrap_or, if◌then◌else◌}
+use Rattle.std.specs.Prelude.{codes, ℕ, ◌==◌, List, [], ◌++◌, length, map, flat_map}
+use Rattle.std.specs.Prelude.{if◌then◌else◌}
 use Rattle.std.specs.List.{range_with_len}
 use Rattle.cn_pairs.specs.declared.pairs.Pairs.{Pairs}
 use Rattle.cn_pieces.specs.Pieces.{padding}
 use Rattle.cn_table.specs.TypeTable.{TypeTable}
 use Rattle.cn_sentences.specs.Smallest.{sentences}
 use Rattle.cn_sentences.specs.Triangle.{triangle}
-use Rattle.cn_text.specs.Columns.{widest}
-
--- the text in a column; it is empty where the row ends before
-abbrev pub text_at : List (List ℕ) → ℕ → List ℕ
-text_at row column = unwrap_or (slice_get row column) []
+use Rattle.cn_text.specs.Columns.{text_at, widest}
 
 -- the width of a column: the length of its longest text
 abbrev pub width : List (List (List ℕ)) → ℕ → ℕ

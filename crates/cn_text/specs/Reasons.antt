@@ -12,16 +12,29 @@ use Rattle.cn_sentences.specs.Groups.{members}
 use Rattle.cn_sentences.specs.States.{states_told}
 use Rattle.cn_text.specs.Folded.{folded}
 use Rattle.cn_text.specs.Grid.{cells_text}
+use Rattle.cn_text.specs.declared.reasons.NumberKind.{NumberKind}
+use Rattle.cn_text.specs.declared.reasons.NumberKind.TheVariants.{Readable, Recoverable, Unread}
 
 -- ---- the number
 
--- the name of the type, the kind of number, and the number in words
-unfoldable pub number_line : TypeTable → List ℕ → List ℕ → List ℕ
-number_line t kind words =
-    t.name ++ (codes ": " ++ (kind ++ (codes " " ++ (words
-    ++ (codes " (for processes that can read the whole state)\n" ++ [])))))
+abbrev pub kind_words : NumberKind → List ℕ
+kind_words Readable = codes "consensus number"
+kind_words Recoverable = codes "recoverable consensus number"
+kind_words Unread = codes "consensus number without reads"
 
-unfoldable pub start_text : TypeTable → List ℕ → List ℕ → List ℕ
+-- what the processes can do, for which the number is
+abbrev pub readers : NumberKind → List ℕ
+readers Readable = codes "can read the whole state"
+readers Recoverable = codes "can read the whole state"
+readers Unread = codes "have these operations alone"
+
+-- the name of the type, the kind of number, and the number in words
+unfoldable pub number_line : TypeTable → NumberKind → List ℕ → List ℕ
+number_line t kind words =
+    t.name ++ (codes ": " ++ (kind_words kind ++ (codes " " ++ (words
+    ++ (codes " (for processes that " ++ (readers kind ++ (codes ")\n" ++ [])))))))
+
+unfoldable pub start_text : TypeTable → NumberKind → List ℕ → List ℕ
 start_text t kind words =
     folded (number_line t kind words) ++ (codes "\n" ++ (cells_text t ++ (codes "\n" ++ [])))
 
@@ -32,16 +45,26 @@ is_exactly (Finite n) m = n == m
 is_exactly Infinite m = false
 is_exactly (Between least most) m = false
 
--- for how many processes the witness is, where the number is another one
+-- for how many processes the witness is
+unfoldable pub said_for : ℕ → List ℕ
+said_for m = codes "For " ++ (decimal m ++ (codes " processes, say:\n" ++ []))
+
+-- the same, where the number is another one
 abbrev pub example_line : ConsensusNumber → ℕ → List ℕ
-example_line number m = if is_exactly number m then []
-    else codes "For " ++ (decimal m ++ (codes " processes, say:\n" ++ []))
+example_line number m = if is_exactly number m then [] else said_for m
 
 unfoldable pub witness_line : TypeTable → ℕ → ChoiceGroups → List ℕ
 witness_line t n c =
     codes "Why " ++ (decimal n ++ (codes ": from state " ++ (name_at t.states c.start.0
     ++ (codes ", " ++ (members t (codes " (team A)") c.a.items ++ (codes ", "
     ++ (members t (codes " (team B)") c.b.items ++ (codes ".\n" ++ []))))))))
+
+-- the operation of a single process, and that of all others, with words for their teams
+unfoldable pub single_line : List ℕ → List ℕ → List ℕ → List ℕ → List ℕ → List ℕ
+single_line start single team many others =
+    codes "Why infinite: from state " ++ (start ++ (codes ", one process" ++ (team
+    ++ (codes " does " ++ (single ++ (codes ", and any number of others" ++ (others
+    ++ (codes " do " ++ (many ++ (codes ".\n" ++ []))))))))))
 
 -- the states that are left if this was first
 unfoldable pub states_line : TypeTable → List ℕ → List ℕ → List State → List ℕ
@@ -51,13 +74,14 @@ states_line t first when states =
 
 -- ---- why it is no more
 
-unfoldable pub theorem_line : ℕ → List ℕ
-theorem_line n = codes "No protocol at all does it for "
-    ++ (decimal n ++ (codes ": this is proved (docs/PROVED.md).\n" ++ []))
+-- that no protocol of this kind does it for n processes
+unfoldable pub theorem_line : List ℕ → ℕ → List ℕ
+theorem_line kind n = codes "No protocol " ++ (kind ++ (codes " does it for "
+    ++ (decimal n ++ (codes ": this is proved (docs/PROVED.md).\n" ++ []))))
 
 unfoldable pub no_list : ℕ → List ℕ
 no_list n = codes "Why not " ++ (decimal n ++ (codes ": its ways are not listed here.\n"
-    ++ (theorem_line n ++ [])))
+    ++ (theorem_line (codes "at all") n ++ [])))
 
 abbrev pub each_number_line : List ℕ
 each_number_line = codes "It is so for each number of processes: this is proved (docs/PROVED.md).\n"
@@ -87,7 +111,10 @@ abbrev pub same_ways : List ℕ
 same_ways =
     codes "  Ways that differ only in the numbers of the processes or the names of the teams count as one.\n"
 
--- what is left out behind the ways, and that no protocol does it for n processes
+-- what is left out behind the ways
+unfoldable pub ways_notes : ℕ → ℕ → List ℕ
+ways_notes more version = more_line more ++ (same_ways ++ (left_out version ++ []))
+
+-- the same, and that no protocol does it for n processes
 unfoldable pub ways_end : ℕ → ℕ → ℕ → List ℕ
-ways_end more version n =
-    more_line more ++ (same_ways ++ (left_out version ++ (theorem_line n ++ [])))
+ways_end more version n = ways_notes more version ++ (theorem_line (codes "at all") n ++ [])

@@ -19,6 +19,7 @@ use Rattle.cn_text.specs.Reasons.{each_number_line, example_line, no_list, start
 use Rattle.cn_text.specs.Reasons.{ways_end, ways_words, witness_line}
 use Rattle.cn_text.specs.Ways.{numbered, recoverable_way_text}
 use Rattle.cn_text.specs.declared.limits.TheConstants.{LIVE_VERSION}
+use Rattle.cn_text.specs.declared.reasons.NumberKind.TheVariants.{Recoverable}
 
 -- ---- why the number is so much
 
@@ -67,6 +68,6 @@ no_more t number (Some r) = refutation_text t r
 -- the text of an explanation
 unfoldable pub recoverable_text : RecoverableExplanation → List ℕ
 recoverable_text e =
-    start_text e.table (codes "recoverable consensus number") (number_text e.number)
+    start_text e.table Recoverable (number_text e.number)
     ++ (folded (why e.table e.number e.witness) ++ (codes "\n"
     ++ (folded (no_more e.table e.number e.refutation) ++ [])))

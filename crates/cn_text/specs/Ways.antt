@@ -45,6 +45,12 @@ run_text t answered start team steps =
     codes "       " ++ (run_name team steps ++ (codes ":  " ++ (name_at t.states start.0
     ++ (flat_map (step_text t answered) steps ++ []))))
 
+-- both runs of a choice, the one that team A begins first
+unfoldable pub both_runs : TypeTable → Bool → State → List Step → List Step → List ℕ
+both_runs t answered start a_first b_first =
+    run_text t answered start A a_first ++ (codes "\n"
+    ++ (run_text t answered start B b_first ++ (codes "\n" ++ [])))
+
 -- ---- ways
 
 -- a run of a way, and what its process sees of it
@@ -67,8 +73,8 @@ way_text t number w =
 unfoldable pub recoverable_way_text : TypeTable → ℕ → RecoverableWay → List ℕ
 recoverable_way_text t number w =
     way_start t number w.choice ++ (codes "        both leave " ++ (name_at t.states w.state.0
-    ++ (codes ":\n" ++ (run_text t false w.choice.start A w.runs.a_first.items ++ (codes "\n"
-    ++ (run_text t false w.choice.start B w.runs.b_first.items ++ (codes "\n" ++ [])))))))
+    ++ (codes ":\n"
+    ++ (both_runs t false w.choice.start w.runs.a_first.items w.runs.b_first.items ++ []))))
 
 -- texts of the items of a list, numbered behind this number
 abbrev pub numbered : {X : Type 0} → (ℕ → X → List ℕ) → ℕ → List X → List ℕ

@@ -1,7 +1,8 @@
 //! Texts in columns.
 ghost use Rattle.std.specs.Prelude.{◌≡◌, ◌≤◌, ◌<◌, ◌++◌, OnOk, Some, flat_map, length, slice_get, string_bytes};
 ghost use Rattle.cn_table.specs.declared.limits.TheConstants.{LONGEST_NAME};
-ghost use Rattle.cn_text.specs.Columns.{names_of, padded, widest};
+ghost use Rattle.cn_sentences.specs.Triangle.{texts_of};
+ghost use Rattle.cn_text.specs.Columns.{names_of, padded, text_at, widest};
 
 use cn_pieces::{push_pieces, push_spaces};
 use cn_table::{Operation, Response, State, Table};
@@ -62,4 +63,14 @@ pub(crate) fn push_padded(
     let before = text.len();
     push_pieces(text, pieces)?;
     push_spaces(text, width.saturating_sub(text.len() - before))
+}
+
+/// The text in a column. It is empty where the row ends before.
+pub(crate) fn text_at(row: &[String], column: usize) -> &str
+    ensures { result.now ≡ text_at (texts_of row.now) column }
+{
+    match row.get(column) {
+        Some(text) => text.as_str(),
+        None => "",
+    }
 }

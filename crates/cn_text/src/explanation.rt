@@ -6,12 +6,13 @@ ghost use Rattle.cn_sentences.specs.Numbers.{number_words};
 ghost use Rattle.cn_text.specs.Explanation.{example_part, exception, exceptions, explanation_text, in_full, lasting_part, lasting_text, no_more, not_refuted, pairs_line, reasons_text, refutation_text, rest_interferes, rule_sentence, rule_words, tells_pairs, tells_refutation, ways_part, why, witness_text, with_ways};
 ghost use Rattle.cn_text.specs.Folded.{folded};
 ghost use Rattle.cn_text.specs.Reasons.{start_text};
+ghost use Rattle.cn_text.specs.declared.reasons.NumberKind.TheVariants.{Readable};
 
 use crate::folded::push_folded;
 use crate::limits::MOST_APART;
 use crate::reasons::{
-    push_each_number, push_example, push_no_list, push_start, push_states_line, push_ways_end,
-    push_ways_words, push_witness_line,
+    NumberKind, push_each_number, push_example, push_no_list, push_single_line, push_start,
+    push_states_line, push_ways_end, push_ways_words, push_witness_line,
 };
 use crate::views::push_views;
 use crate::ways::push_ways;
@@ -37,20 +38,7 @@ fn push_lasting(
     let start = table.state_name(witness.lasting.start);
     let single = table.operation_name(witness.lasting.single);
     let many = table.operation_name(witness.lasting.many);
-    let from = "Why infinite: from state ";
-    let others = ", and any number of others do ";
-    push_pieces(
-        text,
-        &[
-            from,
-            start,
-            ", one process does ",
-            single,
-            others,
-            many,
-            ".\n",
-        ],
-    )?;
+    push_single_line(text, start, single, "", many, "")?;
     let (single_states, many_states) = (&witness.single_states, &witness.many_states);
     push_states_line(text, table, single, " first", single_states.as_slice())?;
     push_states_line(
@@ -113,7 +101,13 @@ fn push_witness(
     let mut line = String::new(alloc);
     push_witness_line(&mut line, table, witness.processes, &witness.choice)?;
     push_folded(alloc, text, line.as_str())?;
-    push_views(alloc, text, table, witness.views.as_slice())?;
+    push_views(
+        alloc,
+        text,
+        table,
+        &witness.choice,
+        witness.views.as_slice(),
+    )?;
     push_pieces(
         text,
         &["  No process has a pair on both sides, so each can tell which team was first.\n"],
@@ -141,7 +135,7 @@ fn push_why(
 
 /// A rule in words: what it says of the operations.
 #[tactic(auto, unfolding(crate::specs::Explanation::rule_words))]
-fn rule_words<'a>(rule: Rule) -> &'a str
+pub(crate) fn rule_words<'a>(rule: Rule) -> &'a str
     ensures { result.now ≡ rule_words rule }
 {
     match rule {
@@ -362,7 +356,7 @@ fn push_number(
     explanation: &Explanation,
 ) -> Result<(), AllocError>
     ensures { OnOk result (string_bytes text.new ≡ string_bytes text.old
-        ++ start_text explanation.now.table (codes "consensus number")
+        ++ start_text explanation.now.table Readable
         (number_words (codes " (the limit)") explanation.now.number)) }
 {
     let words = number_words(alloc, " (the limit)", explanation.number)?;
@@ -370,7 +364,7 @@ fn push_number(
         alloc,
         text,
         &explanation.table,
-        "consensus number",
+        NumberKind::Readable,
         words.as_str(),
     )
 }

@@ -2,8 +2,9 @@
 //!
 //! [`grid_of`] answers the grid of a table, and [`diagram_of`] its picture for Graphviz.
 //! [`explanation_of`] tells an [`Explanation`](cn_reasons::Explanation) to people, and
-//! [`recoverable_explanation_of`] that of a recoverable number. [`pairs_lines`] has the numbers of
-//! pairs of operations as a triangle. Each text is a function of the values that it shows.
+//! [`recoverable_explanation_of`] that of a recoverable number, and [`unread_explanation_of`] that of a
+//! number without reads. [`pairs_lines`] has the numbers of pairs of operations as a triangle. Each
+//! text is a function of the values that it shows.
 //!
 //! ```text
 //! print!(rt; "{}", grid_of(alloc, &table)?)?;
@@ -19,8 +20,12 @@ mod folded;
 mod grid;
 mod limits;
 mod pair_lines;
+mod plays;
 mod reasons;
 mod recoverable;
+mod sides;
+mod unread;
+mod unread_views;
 mod views;
 mod ways;
 
@@ -29,3 +34,4 @@ pub use explanation::explanation_of;
 pub use grid::grid_of;
 pub use pair_lines::pairs_lines;
 pub use recoverable::recoverable_explanation_of;
+pub use unread::unread_explanation_of;

@@ -6,13 +6,6 @@ pub(crate) const WIDEST_LINE: usize = 100;
 /// The number of spaces before the rest of a line that goes on in the next one.
 pub(crate) const MARGIN: usize = 10;
 
-/// The greatest width of the widest response and the widest state of a table together with which a
-/// line of [`WIDEST_LINE`] columns has room for two pairs of a process.
-pub(crate) const MOST_BESIDE: usize = 23;
-
-/// The same for two pairs of several processes, whose words are wider.
-pub(crate) const MOST_BESIDE_SEVERAL: usize = 20;
-
 /// The greatest number of pairs of operations that do not interfere which are told.
 pub(crate) const MOST_APART: usize = 3;
 

@@ -2,23 +2,15 @@
 ghost use Rattle.std.specs.Prelude.{◌≡◌, ◌++◌, IfOk, OnOk, flat_map, length, string_bytes};
 ghost use Rattle.std.specs.List.{range_with_len};
 ghost use Rattle.cn_sentences.specs.Triangle.{rows_of, texts_of};
-ghost use Rattle.cn_text.specs.PairLines.{aligned, aligned_line, aligned_lines, pairs_text, text_at, width};
+ghost use Rattle.cn_text.specs.Columns.{text_at};
+ghost use Rattle.cn_text.specs.PairLines.{aligned, aligned_line, aligned_lines, pairs_text, width};
 
+use crate::columns::text_at;
 use cn_pairs::Pairs;
 use cn_pieces::push_padding;
 use cn_sentences::{push_smallest, triangle_of};
 use cn_table::Table;
 use std::alloc::{AllocError, Global};
-
-/// The text in a column. It is empty where the row ends before.
-fn text_at(row: &[String], column: usize) -> &str
-    ensures { result.now ≡ text_at (texts_of row.now) column }
-{
-    match row.get(column) {
-        Some(text) => text.as_str(),
-        None => "",
-    }
-}
 
 /// The width of a column: the length of its longest text.
 fn width(rows: &[Vec<String>], column: usize) -> usize

@@ -3,7 +3,7 @@
 ghost use Rattle.std.specs.Prelude.{◌≡◌, [], ◌++◌, codes, string_bytes, All, OnOk};
 ghost use Rattle.cn_reasons.specs.Known.{IsKnownChoice, IsKnownState};
 ghost use Rattle.cn_text.specs.Grid.{cells_text};
-ghost use Rattle.cn_text.specs.Reasons.{each_number_line, example_line, is_exactly, left_out, more_line, no_list, number_line, start_text, states_line, theorem_line, ways_end, ways_words, witness_line};
+ghost use Rattle.cn_text.specs.Reasons.{each_number_line, example_line, is_exactly, kind_words, left_out, more_line, no_list, number_line, readers, said_for, single_line, start_text, states_line, theorem_line, ways_end, ways_notes, ways_words, witness_line};
 
 use crate::folded::push_folded;
 use crate::grid::push_cells;
@@ -14,18 +14,61 @@ use cn_sentences::{push_members, push_states};
 use cn_table::{State, Table};
 use std::alloc::{AllocError, Global};
 
+/// What a number is of.
+#[derive(Clone, Copy)]
+pub(crate) enum NumberKind {
+    /// Processes that read objects.
+    Readable,
+    /// Processes that read objects, crash and come back.
+    Recoverable,
+    /// Processes that do not read objects.
+    Unread,
+}
+
+fn kind_words<'a>(kind: NumberKind) -> &'a str
+    ensures { result.now ≡ kind_words kind }
+{
+    match kind {
+        NumberKind::Readable => "consensus number",
+        NumberKind::Recoverable => "recoverable consensus number",
+        NumberKind::Unread => "consensus number without reads",
+    }
+}
+
+/// What the processes can do, for which the number is.
+fn readers<'a>(kind: NumberKind) -> &'a str
+    ensures { result.now ≡ readers kind }
+{
+    match kind {
+        NumberKind::Readable | NumberKind::Recoverable => "can read the whole state",
+        NumberKind::Unread => "have these operations alone",
+    }
+}
+
 #[tactic(auto, unfolding(crate::specs::Reasons::number_line))]
-fn push_number_line(
+fn push_number_line<'a>(
     text: &mut String,
-    table: &Table,
-    kind: &str,
-    words: &str,
+    table: &'a Table,
+    kind: NumberKind,
+    words: &'a str,
 ) -> Result<(), AllocError>
     ensures { OnOk result (string_bytes text.new
-        ≡ string_bytes text.old ++ number_line table.now kind.now words.now) }
+        ≡ string_bytes text.old ++ number_line table.now kind words.now) }
 {
-    let end = " (for processes that can read the whole state)\n";
-    push_pieces(text, &[table.name(), ": ", kind, " ", words, end])
+    let (name, told, can) = (table.name(), kind_words(kind), readers(kind));
+    push_pieces(
+        text,
+        &[
+            name,
+            ": ",
+            told,
+            " ",
+            words,
+            " (for processes that ",
+            can,
+            ")\n",
+        ],
+    )
 }
 
 /// The number in words, of this kind, in as many lines as it needs; and the cells of the table.
@@ -34,11 +77,11 @@ pub(crate) fn push_start(
     alloc: Global,
     text: &mut String,
     table: &Table,
-    kind: &str,
+    kind: NumberKind,
     words: &str,
 ) -> Result<(), AllocError>
     ensures { OnOk result (string_bytes text.new
-        ≡ string_bytes text.old ++ start_text table.now kind.now words.now) }
+        ≡ string_bytes text.old ++ start_text table.now kind words.now) }
 {
     let mut line = String::new(alloc);
     push_number_line(&mut line, table, kind, words)?;
@@ -66,7 +109,15 @@ fn is_exactly(number: ConsensusNumber, processes: u8) -> bool
     }
 }
 
-/// For how many processes the witness is, if the number is another one.
+/// For how many processes the witness is.
+#[tactic(auto, unfolding(crate::specs::Reasons::said_for))]
+pub(crate) fn push_said_for(text: &mut String, processes: u8) -> Result<(), AllocError>
+    ensures { OnOk result (string_bytes text.new ≡ string_bytes text.old ++ said_for processes) }
+{
+    write!(text, "For {processes} processes, say:\n")
+}
+
+/// The same, if the number is another one.
 pub(crate) fn push_example(
     text: &mut String,
     number: ConsensusNumber,
@@ -79,7 +130,7 @@ pub(crate) fn push_example(
     if is_exactly(number, processes) {
         return Ok(());
     }
-    write!(text, "For {processes} processes, say:\n")
+    push_said_for(text, processes)
 }
 
 /// The operations of the witness, by team.
@@ -103,6 +154,39 @@ pub(crate) fn push_witness_line(
     push_pieces(text, &[".\n"])
 }
 
+/// The operation of a single process from a state, and that of all others, with words for their
+/// teams.
+#[tactic(auto, unfolding(crate::specs::Reasons::single_line))]
+pub(crate) fn push_single_line(
+    text: &mut String,
+    start: &str,
+    single: &str,
+    team: &str,
+    many: &str,
+    others: &str,
+) -> Result<(), AllocError>
+    // promise: parts-of-explanations (single_line)
+    ensures { OnOk result (string_bytes text.new ≡ string_bytes text.old
+        ++ single_line start.now single.now team.now many.now others.now) }
+{
+    push_pieces(
+        text,
+        &[
+            "Why infinite: from state ",
+            start,
+            ", one process",
+            team,
+            " does ",
+            single,
+            ", and any number of others",
+            others,
+            " do ",
+            many,
+            ".\n",
+        ],
+    )
+}
+
 /// The states that are left if this was first.
 #[tactic(auto, unfolding(crate::specs::Reasons::states_line))]
 pub(crate) fn push_states_line(
@@ -121,15 +205,16 @@ pub(crate) fn push_states_line(
     push_pieces(text, &["\n"])
 }
 
-/// That no protocol does it for n processes.
+/// That no protocol of this kind does it for n processes.
 #[tactic(auto, unfolding(crate::specs::Reasons::theorem_line))]
-fn push_theorem(text: &mut String, n: u16) -> Result<(), AllocError>
+pub(crate) fn push_theorem(text: &mut String, kind: &str, n: u16) -> Result<(), AllocError>
     // promise: parts-of-explanations (theorem_line)
-    ensures { OnOk result (string_bytes text.new ≡ string_bytes text.old ++ theorem_line n) }
+    ensures { OnOk result (string_bytes text.new
+        ≡ string_bytes text.old ++ theorem_line kind.now n) }
 {
     write!(
         text,
-        "No protocol at all does it for {n}: this is proved (docs/PROVED.md).\n"
+        "No protocol {kind} does it for {n}: this is proved (docs/PROVED.md).\n"
     )
 }
 
@@ -139,7 +224,7 @@ pub(crate) fn push_no_list(text: &mut String, n: u16) -> Result<(), AllocError>
     ensures { OnOk result (string_bytes text.new ≡ string_bytes text.old ++ no_list n) }
 {
     write!(text, "Why not {n}: its ways are not listed here.\n")?;
-    push_theorem(text, n)
+    push_theorem(text, "at all", n)
 }
 
 pub(crate) fn push_each_number(text: &mut String) -> Result<(), AllocError>
@@ -200,8 +285,20 @@ fn left_out<'a>(version: u8) -> &'a str
     }
 }
 
-/// What is left out behind the ways of a list of this version, and that no protocol does it for n
-/// processes.
+/// What is left out behind the ways of a list of this version.
+#[tactic(auto, unfolding(crate::specs::Reasons::ways_notes))]
+pub(crate) fn push_ways_notes(text: &mut String, more: usize, version: u8) -> Result<(), AllocError>
+    // promise: parts-of-explanations (same_ways)
+    ensures { OnOk result (string_bytes text.new
+        ≡ string_bytes text.old ++ ways_notes more version) }
+{
+    let same_ways =
+        "  Ways that differ only in the numbers of the processes or the names of the teams count as one.\n";
+    push_more(text, more)?;
+    push_pieces(text, &[same_ways, left_out(version)])
+}
+
+/// The same, and that no protocol does it for n processes.
 #[tactic(auto, unfolding(crate::specs::Reasons::ways_end))]
 pub(crate) fn push_ways_end(
     text: &mut String,
@@ -209,13 +306,9 @@ pub(crate) fn push_ways_end(
     version: u8,
     n: u8,
 ) -> Result<(), AllocError>
-    // promise: parts-of-explanations (same_ways)
     ensures { OnOk result (string_bytes text.new
         ≡ string_bytes text.old ++ ways_end more version n) }
 {
-    let same_ways =
-        "  Ways that differ only in the numbers of the processes or the names of the teams count as one.\n";
-    push_more(text, more)?;
-    push_pieces(text, &[same_ways, left_out(version)])?;
-    push_theorem(text, n as u16)
+    push_ways_notes(text, more, version)?;
+    push_theorem(text, "at all", n as u16)
 }

@@ -1,17 +1,18 @@
 //! The text of an explanation of a recoverable number.
-ghost use Rattle.std.specs.Prelude.{◌≡◌, ◌++◌, codes, string_bytes, IfOk, IfSome, OnOk};
+ghost use Rattle.std.specs.Prelude.{◌≡◌, ◌++◌, string_bytes, IfOk, IfSome, OnOk};
 ghost use Rattle.cn_reasons.specs.Known.{IsKnownRecording, IsKnownRecoverableWay, IsKnownRefutation};
 ghost use Rattle.cn_reasons.specs.Recoverable.{IsRecoverableExplanation};
 ghost use Rattle.cn_search.specs.NumberText.{number_text};
 ghost use Rattle.cn_text.specs.Folded.{folded};
 ghost use Rattle.cn_text.specs.Reasons.{start_text};
+ghost use Rattle.cn_text.specs.declared.reasons.NumberKind.TheVariants.{Recoverable};
 ghost use Rattle.cn_text.specs.Recoverable.{no_more, not_refuted, recoverable_text, refutation_text, start_place, why, witness_text};
 
 use crate::folded::push_folded;
 use crate::limits::LIVE_VERSION;
 use crate::reasons::{
-    push_each_number, push_example, push_no_list, push_start, push_states_line, push_ways_end,
-    push_ways_words, push_witness_line,
+    NumberKind, push_each_number, push_example, push_no_list, push_start, push_states_line,
+    push_ways_end, push_ways_words, push_witness_line,
 };
 use crate::ways::push_recoverable_ways;
 use cn_pieces::push_pieces;
@@ -133,7 +134,7 @@ fn push_number(
     explanation: &RecoverableExplanation,
 ) -> Result<(), AllocError>
     ensures { OnOk result (string_bytes text.new ≡ string_bytes text.old
-        ++ start_text explanation.now.table (codes "recoverable consensus number")
+        ++ start_text explanation.now.table Recoverable
         (number_text explanation.now.number)) }
 {
     let words = format!(in alloc; "{}", explanation.number)?;
@@ -141,7 +142,7 @@ fn push_number(
         alloc,
         text,
         &explanation.table,
-        "recoverable consensus number",
+        NumberKind::Recoverable,
         words.as_str(),
     )
 }

@@ -2,7 +2,7 @@
 ghost use Rattle.std.specs.Prelude.{◌≡◌, ◌<◌, ◌++◌, flat_map, length, string_bytes, All, OnOk};
 ghost use Rattle.cn_choice.specs.declared.limits.TheConstants.{MOST_PROCESSES};
 ghost use Rattle.cn_reasons.specs.Known.{IsKnownChoice, IsKnownRecoverableWay, IsKnownStep, IsKnownWay};
-ghost use Rattle.cn_text.specs.Ways.{cannot_tell, choice_text, numbered, recoverable_way_text, run_name, run_text, seen_run, step_text, way_start, way_text};
+ghost use Rattle.cn_text.specs.Ways.{both_runs, cannot_tell, choice_text, numbered, recoverable_way_text, run_name, run_text, seen_run, step_text, way_start, way_text};
 
 use cn_choice::Team;
 use cn_pieces::{push_number, push_pieces};
@@ -26,7 +26,7 @@ fn push_choice(text: &mut String, table: &Table, choice: &ChoiceGroups) -> Resul
 }
 
 #[tactic(auto, unfolding(crate::specs::Ways::way_start))]
-fn push_way_start(
+pub(crate) fn push_way_start(
     text: &mut String,
     table: &Table,
     number: usize,
@@ -122,6 +122,29 @@ fn push_run(
     push_steps(text, table, answered, steps)
 }
 
+/// Both runs of a choice, the one that team A begins first.
+#[tactic(auto, unfolding(crate::specs::Ways::both_runs))]
+pub(crate) fn push_both_runs(
+    text: &mut String,
+    table: &Table,
+    answered: bool,
+    start: State,
+    a_first: &[Step],
+    b_first: &[Step],
+) -> Result<(), AllocError>
+    requires start { start.0 < length table.now.states }
+    requires a_first { All (IsKnownStep table.now) a_first.now }
+    requires b_first { All (IsKnownStep table.now) b_first.now }
+    // promise: parts-of-explanations (both_runs)
+    ensures { OnOk result (string_bytes text.new ≡ string_bytes text.old
+        ++ both_runs table.now answered start a_first.now b_first.now) }
+{
+    push_run(text, table, answered, start, Team::A, a_first)?;
+    text.push_str("\n")?;
+    push_run(text, table, answered, start, Team::B, b_first)?;
+    push_pieces(text, &["\n"])
+}
+
 /// A run of a way, and what its process sees of it.
 #[tactic(auto, unfolding(crate::specs::Ways::seen_run))]
 fn push_seen_run(
@@ -200,24 +223,8 @@ fn push_recoverable_way(
         text,
         &["        both leave ", table.state_name(way.state), ":\n"],
     )?;
-    push_run(
-        text,
-        table,
-        false,
-        start,
-        Team::A,
-        way.runs.a_first.as_slice(),
-    )?;
-    text.push_str("\n")?;
-    push_run(
-        text,
-        table,
-        false,
-        start,
-        Team::B,
-        way.runs.b_first.as_slice(),
-    )?;
-    push_pieces(text, &["\n"])
+    let (a_first, b_first) = (way.runs.a_first.as_slice(), way.runs.b_first.as_slice());
+    push_both_runs(text, table, false, start, a_first, b_first)
 }
 
 /// The ways, numbered from 1.

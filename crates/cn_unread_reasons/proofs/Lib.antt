@@ -1,0 +1,3 @@
+pub mod EachOnce
+pub mod Explained
+pub mod Fits

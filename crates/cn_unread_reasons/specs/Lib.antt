@@ -1,2 +1,9 @@
 pub mod Known
+pub mod LowReasons
+pub mod MergedStates
+pub mod PlayedTraps
 pub mod Plays
+pub mod SignWitnesses
+pub mod UnreadExplanations
+pub mod UnreadSights
+pub mod UnreadWitnesses

@@ -10,6 +10,7 @@
 #![tactic(auto)]
 
 mod explanation;
+mod low;
 mod merged;
 mod moves;
 mod play;

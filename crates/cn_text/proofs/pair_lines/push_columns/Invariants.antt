@@ -1,7 +1,8 @@
 use Rattle.std.proofs.Common.{◌≡◌, ◌++◌, flat_map, string_bytes}
 use Rattle.std.specs.List.{range_with_len}
 use Rattle.cn_sentences.specs.Triangle.{rows_of, texts_of}
-use Rattle.cn_text.specs.PairLines.{aligned, text_at, width}
+use Rattle.cn_text.specs.Columns.{text_at}
+use Rattle.cn_text.specs.PairLines.{aligned, width}
 use Rattle.cn_text.proofs.pair_lines.push_columns.Given as goal
 
 -- the columns so far

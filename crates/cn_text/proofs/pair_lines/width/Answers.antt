@@ -1,7 +1,8 @@
 use Rattle.std.proofs.Common.{◌≡◌, ◌∙◌, ap, length, max, rules, sym, take}
 use Rattle.cn_table.specs.DraftView.{texts_view}
 use Rattle.cn_sentences.specs.Triangle.{rows_of, texts_of}
-use Rattle.cn_text.specs.PairLines.{text_at, width}
+use Rattle.cn_text.specs.Columns.{text_at}
+use Rattle.cn_text.specs.PairLines.{width}
 use Rattle.cn_text.proofs.RowWidths.{width_more}
 use Rattle.cn_text.proofs.pair_lines.width.Goals as goal
 

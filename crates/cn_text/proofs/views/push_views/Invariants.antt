@@ -4,4 +4,4 @@ use Rattle.cn_text.proofs.views.push_views.Given as goal
 
 -- the views so far
 abbrev pub invariant-loop-view : goal.invariant-loop-view
-invariant-loop-view l = string_bytes l.text ≡ string_bytes l.initial.text ++ flat_map (view_rows l.table l.width) (take l.view-index l.views)
+invariant-loop-view l = string_bytes l.text ≡ string_bytes l.initial.text ++ flat_map (view_rows l.table l.widths) (take l.view-index l.views)

@@ -1,0 +1,8 @@
+use Rattle.std.proofs.Common.{◌≡◌, map, take}
+use Rattle.cn_table.specs.DraftView.{texts_view}
+use Rattle.cn_text.specs.Views.{sight_text}
+use Rattle.cn_text.proofs.views.sight_texts.Given as goal
+
+-- the texts so far
+abbrev pub invariant-loop-sight : goal.invariant-loop-sight
+invariant-loop-sight l = texts_view l.texts ≡ map (sight_text l.table) (take l.sight-index l.sights)
