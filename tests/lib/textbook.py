@@ -1,7 +1,8 @@
 """Objects of textbooks as tables, each with its number without reads.
 
 Each is made by a start state and a rule for each operation, which gives the response and the next state. Containers hold the letters a and b,
-and have little room. The number is that of the literature, or follows from the argument beside it; tests/lib/unread.py has to come to it too.
+and have little room. The number is that of the literature, or follows from the argument beside it; tests/lib/unread.py has to come to it too,
+and has the traps that are named.
 """
 import collections
 import itertools
@@ -105,27 +106,29 @@ def queues():
     was_empty = lambda state: "no" if state else "yes"
     for room in (2, 3):
         yield f"queue_drop_{room}", queue(room, drop), 2, BOOK_QUEUE
-        yield f"queue_evict_{room}", queue(room, evict), 2, "Who takes one item was first. Of three, each order that leaves one window leaves no trace."
-        yield f"queue_tells_empty_{room}", queue(room, refuse, was_empty), 3, "By hand for three: tests/numbers/without_read; for four there is a trap."
+        yield f"queue_evict_{room}", queue(room, evict), 2, "Who takes the only item was first. Readable it has 2 or 3, and there is a trap for three."
+        yield f"queue_tells_empty_{room}", queue(room, refuse, was_empty), 3, "A protocol for three: tests/numbers/unread_protocols. There is a trap for four."
         yield f"queue_tells_length_{room}", queue(room, refuse, lambda state: len(state) + 1), 3, "As where it tells whether it was empty."
-        yield f"queue_breaks_{room}", breaking(queue(room, refuse), "broken"), INFINITE, "From a full one, one `enq` against any number of `deq`: it is broken for good exactly where the `enq` was first."
+        yield f"queue_breaks_{room}", breaking(queue(room, refuse), "broken"), INFINITE, (
+            "From a full one, one `enq` against any number of `deq`: it is broken for good exactly where the `enq` was first."
+        )
         yield f"queue_peek_drop_{room}", queue(room, drop) | {"peek": see(take_first)}, INFINITE, FIRST_STAYS
         yield f"queue_count_{room}", queue(room, refuse) | {"count": count}, 2, "How many items there are does not tell whose is the oldest."
-    yield "queue_tells_empty_1", queue(1, refuse, was_empty), 2, "With room for one a letter is put in exactly where the queue was empty: as the queue."
+    yield "queue_tells_empty_1", queue(1, refuse, was_empty), 2, "Where a letter fits in, the queue was empty: as the queue."
     yield "queue_breaks_silently_2", breaking(queue(2, refuse), "ok"), INFINITE, "As the one that says so: a `deq` that is answered `ok` shows it."
     yield "queue_peek_refuse_3", queue(3, refuse) | {"peek": see(take_first)}, INFINITE, FIRST_STAYS
-    yield "queue_peek_evict_2", queue(2, evict) | {"peek": see(take_first)}, 2, "A window of two: its readable number is 2."
-    yield "queue_peek_evict_3", queue(3, evict) | {"peek": see(take_first)}, 3, "A window of three whose oldest item is seen; its readable number is 3."
+    yield "queue_peek_evict_2", queue(2, evict) | {"peek": see(take_first)}, 2, "A window of two: readable, too, it has 2."
+    yield "queue_peek_evict_3", queue(3, evict) | {"peek": see(take_first)}, 3, "A window of three whose oldest item is seen: readable, too, it has 3."
     yield "queue_clear_3", queue(3, refuse) | {"clear": lambda state: ("ok", ""), "count": count}, 2, "A clearing wipes out what was before it."
 
 
 def stacks():
     for room in (2, 3):
         yield f"stack_drop_{room}", stack(room, drop), 2, BOOK_STACK
-        yield f"stack_evict_{room}", stack(room, evict), 2, "The lowest item is lost in time, and pushes tell nothing."
-        yield f"stack_replace_{room}", stack(room, replace_last), 2, "The lowest item stays, and only who takes all above it gets to see it."
-        yield f"stack_top_refuse_{room}", stack(room, refuse) | {"top": see(take_last)}, INFINITE, "With one place left, the first push into it stays to be seen."
-        yield f"stack_top_evict_{room}", stack(room, evict) | {"top": see(take_last)}, 2, "The top is that of the last one who pushed."
+        yield f"stack_evict_{room}", stack(room, evict), 2, "Readable it has 2 or 3, and there is a trap for three."
+        yield f"stack_replace_{room}", stack(room, replace_last), 2, "Only who takes the items above it sees the lowest one, which stays; there is a trap for three."
+        yield f"stack_top_refuse_{room}", stack(room, refuse) | {"top": see(take_last)}, INFINITE, "With one place left, the first push stays to be seen."
+        yield f"stack_top_evict_{room}", stack(room, evict) | {"top": see(take_last)}, 2, "The top is what was pushed last; there is a trap for three."
 
 
 def deques():
@@ -189,7 +192,7 @@ def places():
     look = {"look": lambda state: (state or "none", state)}
     yield "mailbox_overwrites", writes | {"take": take_first}, 2, "Who takes the letter was first; puts and takes wipe out what was before them."
     yield "mailbox_look", writes | {"take": take_first} | look, 2, "A look at a place that each put overwrites shows the last letter."
-    yield "mailbox_look_keeps", sticks | {"take": take_first} | look, INFINITE, "A letter that stays until it is taken is a sticky bit with a look (Plotkin 1989)."
+    yield "mailbox_look_keeps", sticks | {"take": take_first} | look, INFINITE, "Until somebody takes it, the letter is a sticky bit with a look (Plotkin 1989)."
     yield "sticky_silent", sticks, 1, "Nothing is answered."
     yield "sticky_tells_first", first, 2, "Only the first is told so: the answers of test-and-set."
     yield "sticky_look", sticks | look, INFINITE, "A sticky bit (Plotkin 1989)."
@@ -229,7 +232,7 @@ def shots():
             ("none", state) if len(state) == 1 else (state[0], ("ab"[state[0] == "a"], size)) if state[1] == size else ("no", state)
         )
         calls = {f"call_{it}": call(it) for it in "ab"}
-        why = "Each call tells the first one. One process more, which comes too late, looks at the winner once: nobody is left who could do so before it."
+        why = "Each call tells the first one, and one process more, which comes too late, sees the winner by the one look that there is."
         yield f"shot_take_{size}", [("bot",)], calls | {"take": take}, size + 1, why
         yield f"shot_flip_{size}", [("bot",)], calls | {"flip": flip}, size + 1, why
 

@@ -94,6 +94,7 @@ class Jobs:
             self.run(["classify", "--without-read", "--as", form, "-"], table)
             self.run(["why", "--as", form, "-"], table)
             self.run(["why", "--recoverable", "--as", form, "-"], table)
+            self.run(["why", "--without-read", "--all", "--as", form, "-"], table)
         for n, inputs in (("2", "1,2"), ("3", "1,2,3")):
             self.run(["agree", "--recoverable", "--processes", n, "--steps", "--as", "json", "-", inputs, CRASHES], table)
         self.run(["classify", "--limit", "3", "T", "-", "T"], table, T=table)
@@ -117,7 +118,7 @@ class Jobs:
     def of_words(self):
         refused = [["find", "--limit", "9"], ["find", "--limit", "0"], ["find", "--limit", "x"], ["find"], ["nosuch"], [], ["lint", "extra"]]
         refused += [["check", "missing"], ["check", "constructor"], ["show", "--as", "x", "C"], ["lint", "\xe4"], ["why", "--recoverable", "--limit", "3", "-"]]
-        refused += [["classify", "--without-read", "--limit", "3", "-"]]
+        refused += [["classify", "--without-read", "--limit", "3", "-"], ["why", "--without-read", "--recoverable", "-"]]
         for words in [*refused, ["--help"], ["-h"], ["--version"], ["help"], *([it, "--help"] for it in COMMANDS)]:
             self.run(words, BIT)
 

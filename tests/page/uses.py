@@ -625,8 +625,9 @@ def two_runs(use):
             continue
         told = json.loads(told)
         choice = told["refuted"] and told["refuted"]["choices"][0]
-        yield f"the two runs of {name}", bool(choice) == bool(use.count(".two-runs")), told["refuted"]
-        if not choice:
+        has_runs = bool(choice) and choice["process"] is not None
+        yield f"the two runs of {name}", has_runs == bool(use.count(".two-runs")), told["refuted"]
+        if not has_runs:
             continue
         runs = [[choice["start"], *(it["state"] for it in choice[side])] for side in ("a_first", "b_first")]
         wanted = [*runs, [it[-1] for it in runs], True]

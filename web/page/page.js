@@ -182,10 +182,10 @@ var Cnum = globalThis.Cnum || {};
 
         // Offers a picture. Its file has the name of the type, its number, and the part that it shows.
         async savePicture(part, picture, form) {
-            const number = at('number').textContent.replace(/ /g, '_');
+            const { numbers, reads } = this;
+            const number = numbers.has(reads) ? [Cnum.numberText(numbers.of(reads)).replace(/ /g, '_')] : [];
             const content = form === 'png' ? await Cnum.pngOf(picture) : Cnum.svgText(picture);
-            const ending = [...(number === NO_NUMBER ? [] : [number]), part].join('_');
-            this.offer(`${ending}.${form}`, content, form === 'png' ? 'image/png' : 'image/svg+xml');
+            this.offer(`${[...number, part].join('_')}.${form}`, content, form === 'png' ? 'image/png' : 'image/svg+xml');
         }
 
         // The example of this text, if it is one.
@@ -328,6 +328,8 @@ var Cnum = globalThis.Cnum || {};
             this.certificate = '';
             this.numbers.clear(why);
             this.reasons = new Map(); // what `why` told of the numbers, by whether the object can be read
+            this.refused = ''; // why there is no evidence, if there is none
+            this.graph = null;
             at('running').hidden = at('running-without').hidden = true;
             at('why').replaceChildren();
             this.picture.clear();
@@ -447,13 +449,26 @@ var Cnum = globalThis.Cnum || {};
         chooseReads(reads) {
             this.reads = reads;
             this.tellChoice();
-            at('why').replaceChildren();
             if (at('picture').firstElementChild) this.redraw();
-            if (reads && this.certificate) this.showReasons();
-            if (!reads && this.numbers.has(false)) this.showUnreadReasons();
+            this.explain();
             if (this.certificate) this.offerLimits();
             this.comparison.again();
             this.address.keepSoon();
+        }
+
+        // Shows why the number that is chosen is what it is, or that this is searched for, or why there are no reasons.
+        explain() {
+            const { reads } = this;
+            const isKnown = reads ? this.certificate && !this.refused : this.numbers.has(false);
+            const isBusy = (reads ? this.search : this.unread).isBusy();
+            this.sayOfReasons(reads && this.refused ? this.refused : say(isKnown || isBusy ? 'searching' : 'search_broken_off'));
+            if (isKnown && reads) this.showReasons();
+            if (isKnown && !reads) this.showUnreadReasons();
+        }
+
+        // Says something in the place of reasons.
+        sayOfReasons(text) {
+            at('why').replaceChildren(...(this.graph ? [element('p', { class: 'quiet' }, text)] : []));
         }
 
         // Shows the reasons of one of the two numbers where the reader looks.
@@ -511,7 +526,8 @@ var Cnum = globalThis.Cnum || {};
         // Says why there is no evidence, and so no protocol.
         refuse(why) {
             this.draw(null);
-            if (this.reads) at('why').replaceChildren(element('p', {}, why));
+            this.refused = why;
+            if (this.reads) this.sayOfReasons(why);
             this.protocol.clear(why);
         }
 
@@ -627,7 +643,7 @@ var Cnum = globalThis.Cnum || {};
         breakOffUnread() {
             this.unread.breakOff();
             if (!this.numbers.has(false)) this.numbers.say(false, say('search_broken_off'));
-            else if (!this.reads) at('why').replaceChildren(element('p', {}, say('search_broken_off')));
+            else if (!this.reads) this.sayOfReasons(say('search_broken_off'));
         }
 
         async explainAll() {

@@ -88,6 +88,10 @@ var Cnum = globalThis.Cnum || {};
             return { status: answer.status, stdout: textOf(answer.stdout), stderr: textOf(answer.stderr) };
         }
 
+        isBusy() {
+            return this.waiting.size > 0;
+        }
+
         // Ends the worker, after its last run.
         end() {
             this.worker.terminate();

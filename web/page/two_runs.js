@@ -32,7 +32,6 @@ var Cnum = globalThis.Cnum || {};
                 this.end,
                 this.said,
             );
-            this.whole.addEventListener('keydown', event => this.key(event));
             this.moveTo(this.length);
             this.said.textContent = '';
             queueMicrotask(() => this.reveal()); // once it is on the page
@@ -45,6 +44,7 @@ var Cnum = globalThis.Cnum || {};
             this.backButton = button(say('step_back'), () => this.moveTo(this.position - 1));
             this.nextButton = button(say('step_on'), () => this.moveTo(this.position + 1));
             const buttons = element('div', { class: 'buttons' }, button(say('run_anew'), () => this.moveTo(0)), this.backButton, this.nextButton);
+            buttons.addEventListener('keydown', event => this.key(event));
             const label = element('label', { for: 'runs-place' }, say('run_place'));
             return element('div', { class: 'controls' }, buttons, element('p', { class: 'run-place' }, label, this.slider, this.count));
         }
@@ -102,9 +102,17 @@ var Cnum = globalThis.Cnum || {};
             this.reveal();
             this.slider.value = this.position;
             this.count.textContent = say('run_count', { count: this.position, whole: this.length });
-            this.backButton.disabled = this.position === 0;
-            this.nextButton.disabled = isAtEnd;
+            this.allow(this.position > 0, !isAtEnd);
             this.said.textContent = this.lastSteps();
+        }
+
+        // Which of the two buttons can be pressed. A focus on the other one goes to it.
+        allow(back, next) {
+            const { backButton, nextButton } = this;
+            const focused = document.activeElement;
+            [backButton.disabled, nextButton.disabled] = [!back, !next];
+            if (!next && focused === nextButton) backButton.focus();
+            if (!back && focused === backButton) nextButton.focus();
         }
 
         // Lights up the state of the object after the steps that are shown.
@@ -132,7 +140,7 @@ var Cnum = globalThis.Cnum || {};
         }
 
         key(event) {
-            if (!(event.key in KEYS) || event.ctrlKey || event.altKey || event.metaKey || event.target === this.slider) return;
+            if (!(event.key in KEYS) || event.ctrlKey || event.altKey || event.metaKey) return;
             event.preventDefault();
             this.moveTo(this.position + KEYS[event.key]);
         }

@@ -14,3 +14,4 @@ pub mod Serve
 pub mod Show
 pub mod Why
 pub mod WhyRecoverable
+pub mod WhyUnread

@@ -19,4 +19,4 @@ pub use of_certificates::{agree, check, explain, show};
 pub use of_lives::agree_recoverably;
 pub use of_logs::{replay, serve};
 pub use of_several_tables::{NamedTable, Tell, classify_each};
-pub use of_tables::{classify, draw, find, lint, pairs, why, why_recoverable};
+pub use of_tables::{classify, draw, find, lint, pairs, why, why_recoverable, why_unread};

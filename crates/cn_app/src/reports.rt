@@ -17,6 +17,7 @@ mod serve;
 mod show;
 mod why;
 mod why_recoverable;
+mod why_unread;
 
 pub use agree::{AskedRun, agree_report};
 pub use classify::{AskedNumbers, check_limit, classification_of, head_report, numbers_report};
@@ -31,3 +32,4 @@ pub use serve::serve_report;
 pub use show::{plan_as, show_report};
 pub use why::why_report;
 pub use why_recoverable::why_recoverable_report;
+pub use why_unread::why_unread_report;

@@ -15,3 +15,5 @@ pub mod Verdict
 pub mod Lasting
 pub mod Explanation
 pub mod Recoverable
+pub mod UnreadWitness
+pub mod Unread

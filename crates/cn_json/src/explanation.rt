@@ -28,7 +28,7 @@ impl JsonValue for OperationPair {
 }
 
 /// The word of the rule, or null.
-fn rule_value<'a>(rule: Option<Rule>) -> Primitive<'a>
+pub(crate) fn rule_value<'a>(rule: Option<Rule>) -> Primitive<'a>
     ensures { primitive_data result ≡ option_data rule_data rule }
 {
     match rule {

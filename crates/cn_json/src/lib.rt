@@ -4,9 +4,9 @@
 //! [`classification_json`] writes the numbers of a type, [`verdict_json`] the verdict on a
 //! certificate, [`flaws_json`] the flaws of the text of a table, [`course_json`] the decisions and
 //! the steps of processes, [`log_json`] and [`service_json`] what happened in a log,
-//! [`explanation_json`] and [`recoverable_explanation_json`] why a number is what it is,
-//! [`pairs_json`] the numbers of operations and of their pairs, and [`plan_json`] a plan. Each text
-//! is that of a JSON value, which is a function of the answer.
+//! [`explanation_json`], [`recoverable_explanation_json`] and [`unread_explanation_json`] why a
+//! number is what it is, [`pairs_json`] the numbers of operations and of their pairs, and
+//! [`plan_json`] a plan. Each text is that of a JSON value, which is a function of the answer.
 //!
 //! ```text
 //! println!(rt; "{}", verdict_json(alloc, check(&table, &certificate))?)?;
@@ -28,6 +28,8 @@ mod numbers;
 mod pairs;
 mod plan;
 mod recoverable;
+mod unread;
+mod unread_witness;
 mod value;
 mod verdict;
 mod witness;
@@ -42,4 +44,5 @@ pub use numbers::{Classification, classification_json};
 pub use pairs::pairs_json;
 pub use plan::plan_json;
 pub use recoverable::recoverable_explanation_json;
+pub use unread::unread_explanation_json;
 pub use verdict::{unread_json, verdict_json};

@@ -61,7 +61,7 @@ pub(crate) fn write_type_number(out: &mut JsonText, number: TypeNumber) -> Resul
 
 /// Writes what is known of a number without reads: the number; `"infinite"`;
 /// `{"at_least":N,"at_most":M}`; or `{"at_least":N}`.
-fn write_bounds(out: &mut JsonText, bounds: NumberBounds) -> Result<(), AllocError>
+pub(crate) fn write_bounds(out: &mut JsonText, bounds: NumberBounds) -> Result<(), AllocError>
     ensures { Appends result out.old out.new (value_tokens (bounds_data bounds)) }
 {
     match bounds {

@@ -13,7 +13,7 @@ use Rattle.cn_form.specs.declared.answer_form.DocumentForm.{DocumentForm}
 use Rattle.cn_form.specs.declared.plan_form.PlanForm.{PlanForm}
 use Rattle.cn_form.specs.declared.answer_form.AnswerForm.{AnswerForm}
 use Rattle.cn_words.specs.declared.commands.Command.{Command}
-use Rattle.cn_words.specs.declared.commands.Command.TheVariants.{Find, Lint, Draw, Check, Explain, Why, WhyRecoverable, Pairs, Show, Agree, Replay, Serve}
+use Rattle.cn_words.specs.declared.commands.Command.TheVariants.{Find, Lint, Draw, Check, Explain, Why, WhyRecoverable, WhyUnread, Pairs, Show, Agree, Replay, Serve}
 use Rattle.cn_words.specs.declared.commands.Invocation.{Invocation}
 use Rattle.cn_words.specs.declared.commands.Invocation.TheVariants.{Classify, Lives, OfTable}
 use Rattle.cn_words.specs.declared.commands.OpeningWords.{OpeningWords}
@@ -92,6 +92,12 @@ tables_read f words tables found are =
 pub no_tables : (f : Found) (tables : List TextSource) → None ≡ option_map raw_values (matched_of f (codes "FILE")) → HasTables (rows_of f) tables → ⊥
 no_tables f tables found given = let bad = found ∙ raw_values-rows f (codes "FILE") ∙ given.1 in cc
 
+-- what `why` requires of the words for its limit
+abbrev pub WantsLimit : List Row → Bool → Bool → Type 0
+WantsLimit rows without_read recoverable =
+    MatchBool without_read ((recoverable ≡ false) × (first_of (codes "limit") rows ≡ None))
+    (MatchBool recoverable (first_of (codes "limit") rows ≡ None) ((n : Option ℕ) × HasLimit rows n))
+
 -- what a command of this name requires of its words
 abbrev pub Wants : Text → List Row → Type 0
 Wants name rows =
@@ -101,7 +107,7 @@ Wants name rows =
     (MatchBool (bytes_eq name (codes "check")) (((w : TextSource) × HasCertificate rows w) × ((form : AnswerForm) × HasAnswerForm rows form))
     (MatchBool (bytes_eq name (codes "explain")) (((w : TextSource) × HasCertificate rows w) × ((form : AnswerForm) × HasAnswerForm rows form))
     (MatchBool (bytes_eq name (codes "why"))
-    (MatchBool (is_flag_set (codes "recoverable") rows) (first_of (codes "limit") rows ≡ None) ((n : Option ℕ) × HasLimit rows n) × ((form : DocumentForm) × HasDocumentForm rows form))
+    (WantsLimit rows (is_flag_set (codes "without-read") rows) (is_flag_set (codes "recoverable") rows) × ((form : DocumentForm) × HasDocumentForm rows form))
     (MatchBool (bytes_eq name (codes "pairs")) ((form : DocumentForm) × HasDocumentForm rows form)
     (MatchBool (bytes_eq name (codes "show")) (((w : TextSource) × HasCertificate rows w) × ((plan : PlanForm) × HasForm rows plan))
     (MatchBool (bytes_eq name (codes "agree"))
@@ -111,6 +117,10 @@ Wants name rows =
     (MatchBool (bytes_eq name (codes "serve")) (((o : OpeningWords) × HasOpening rows o) × ((l : Bor Text) × HasWord (codes "CALLS") rows l.now) × ((form : AnswerForm) × HasAnswerForm rows form))
     ⊥))))))))))
 
+-- the same for the same flags
+pub limits : (rows : List Row) (w r d e : Bool) → w ≡ d → r ≡ e → WantsLimit rows d e → WantsLimit rows w r
+limits rows w r d e is_w is_r h = subst (λ b. WantsLimit rows b r) (sym is_w) (subst (λ b. WantsLimit rows d b) (sym is_r) h)
+
 -- every command of this name has what it requires
 pub wants : (name : Text) (rows : List Row) (c : Command) → IsNamed name rows c → Wants name rows
 wants name rows (Find limit) h = subst (λ n. Wants n rows) (sym h.0) (limit, h.1)
@@ -119,9 +129,11 @@ wants name rows Draw h = subst (λ n. Wants n rows) (sym h.0) tt
 wants name rows (Check certificate form) h = subst (λ n. Wants n rows) (sym h.0) ((certificate, h.1.0), (form, h.1.1))
 wants name rows (Explain certificate all form) h = subst (λ n. Wants n rows) (sym h.0) ((certificate, h.1.0), (form, h.1.2))
 wants name rows (Why limit all form) h =
-    subst (λ n. Wants n rows) (sym h.0) (subst (λ b. MatchBool b (first_of (codes "limit") rows ≡ None) ((n : Option ℕ) × HasLimit rows n)) (sym h.1.3) (limit, h.1.0), (form, h.1.2))
+    subst (λ n. Wants n rows) (sym h.0) (limits rows _ _ false false h.1.4 h.1.3 (limit, h.1.0), (form, h.1.2))
 wants name rows (WhyRecoverable all form) h =
-    subst (λ n. Wants n rows) (sym h.0) (subst (λ b. MatchBool b (first_of (codes "limit") rows ≡ None) ((n : Option ℕ) × HasLimit rows n)) (sym h.1.0) h.1.1, (form, h.1.3))
+    subst (λ n. Wants n rows) (sym h.0) (limits rows _ _ false true h.1.1 h.1.0 h.1.2, (form, h.1.4))
+wants name rows (WhyUnread all form) h =
+    subst (λ n. Wants n rows) (sym h.0) (limits rows _ _ true false h.1.0 h.1.1 (refl, h.1.2), (form, h.1.4))
 wants name rows (Pairs form) h = subst (λ n. Wants n rows) (sym h.0) (form, h.1)
 wants name rows (Show certificate plan) h = subst (λ n. Wants n rows) (sym h.0) ((certificate, h.1.0), (plan, h.1.1))
 wants name rows (Agree certificate inputs schedule steps form) h =

@@ -136,8 +136,8 @@ explain_words forms = command_with (codes "explain")
 
 abbrev pub why_words : ValueParser → Shape
 why_words forms = command_with (codes "why")
-    (table_word ∷ limit_option ∷ flag (codes "recoverable") ∷ flag (codes "all")
-    ∷ form_option forms ∷ [])
+    (table_word ∷ limit_option ∷ flag (codes "recoverable") ∷ flag (codes "without-read")
+    ∷ flag (codes "all") ∷ form_option forms ∷ [])
 
 abbrev pub pairs_words : ValueParser → Shape
 pairs_words forms = command_with (codes "pairs") (table_word ∷ form_option forms ∷ [])

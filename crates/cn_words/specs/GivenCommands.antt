@@ -1,5 +1,5 @@
 -- The command that the words of the command line give, by what clap found in them.
-use Rattle.std.specs.Prelude.{◌≡◌, ◌<◌, ◌^◌, ◌++◌, ◌&&◌, ◌||◌, ℕ, Bool, true, false, List, Option, Some}
+use Rattle.std.specs.Prelude.{◌≡◌, ◌<◌, ◌^◌, ◌&&◌, ◌||◌, ℕ, Bool, true, false, List, Option, Some}
 use Rattle.std.specs.Prelude.{None, MatchOption, if◌then◌else◌, codes, is_some, map}
 use Rattle.std.specs.Prelude.{option_and_then}
 use Rattle.std.specs.Option.{option_map_or, option_or}
@@ -18,7 +18,8 @@ use Rattle.cn_form.specs.declared.answer_form.AnswerForm.TheVariants as answer
 use Rattle.cn_words.specs.declared.commands.Command.{Command}
 use Rattle.cn_words.specs.declared.commands.Command.TheVariants.{Find, Lint, Draw, Check}
 use Rattle.cn_words.specs.declared.commands.Command.TheVariants.{Explain, Why, WhyRecoverable}
-use Rattle.cn_words.specs.declared.commands.Command.TheVariants.{Pairs, Show, Agree, Replay, Serve}
+use Rattle.cn_words.specs.declared.commands.Command.TheVariants.{WhyUnread, Pairs, Show, Agree}
+use Rattle.cn_words.specs.declared.commands.Command.TheVariants.{Replay, Serve}
 use Rattle.cn_words.specs.declared.commands.CommandFault.{CommandFault}
 use Rattle.cn_words.specs.declared.commands.CommandFault.TheVariants as fault
 use Rattle.cn_words.specs.declared.commands.Invocation.{Invocation}
@@ -175,6 +176,7 @@ name_of (Check certificate form) = codes "check"
 name_of (Explain certificate all form) = codes "explain"
 name_of (Why limit all form) = codes "why"
 name_of (WhyRecoverable all form) = codes "why"
+name_of (WhyUnread all form) = codes "why"
 name_of (Pairs form) = codes "pairs"
 name_of (Show certificate plan) = codes "show"
 name_of (Agree certificate inputs schedule steps form) = codes "agree"
@@ -193,8 +195,14 @@ HasArguments rows (Explain certificate all form) =
 HasArguments rows (Why limit all form) =
     HasLimit rows limit × HasFlag (codes "all") rows all × HasDocumentForm rows form
     × (is_flag_set (codes "recoverable") rows ≡ false)
+    × (is_flag_set (codes "without-read") rows ≡ false)
 HasArguments rows (WhyRecoverable all form) =
-    (is_flag_set (codes "recoverable") rows ≡ true) × (first_of (codes "limit") rows ≡ None)
+    (is_flag_set (codes "recoverable") rows ≡ true)
+    × (is_flag_set (codes "without-read") rows ≡ false) × (first_of (codes "limit") rows ≡ None)
+    × HasFlag (codes "all") rows all × HasDocumentForm rows form
+HasArguments rows (WhyUnread all form) =
+    (is_flag_set (codes "without-read") rows ≡ true)
+    × (is_flag_set (codes "recoverable") rows ≡ false) × (first_of (codes "limit") rows ≡ None)
     × HasFlag (codes "all") rows all × HasDocumentForm rows form
 HasArguments rows (Pairs form) = HasDocumentForm rows form
 HasArguments rows (Show certificate plan) = HasCertificate rows certificate × HasForm rows plan

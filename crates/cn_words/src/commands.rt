@@ -1,5 +1,5 @@
 //! The command that the words of the command line give, with its arguments.
-ghost use Rattle.std.specs.Prelude.{◌≡◌, IfOk, MatchResult, codes, map, option_map, true};
+ghost use Rattle.std.specs.Prelude.{◌≡◌, IfOk, MatchResult, codes, false, map, option_map, true};
 ghost use Rattle.clap.specs.Simple.{subcommand_rows_of};
 ghost use Rattle.clap.specs.Walk.{first_of};
 ghost use Rattle.cn_words.specs.GivenCommands.{Finds, HasAnswerForm, HasCertificate, HasDocumentForm, HasForm, HasLimit, HasNumber, HasOpening, HasOptionalNumber, HasTable, HasTables, HasWord, IsInvocation, IsInvocationOf, IsNamed, RefusesCommand, is_flag_set, is_input, is_input_shared, is_limit_excluded, is_table_twice, path_in, path_of, rows_in, table_in};
@@ -75,6 +75,13 @@ pub enum Command<'a> {
     },
     /// Tells why the type has its recoverable number.
     WhyRecoverable {
+        /// Whether all choices that are refuted are told.
+        all: bool,
+        /// The form of the answer.
+        form: DocumentForm,
+    },
+    /// Tells why the type has its number without reads.
+    WhyUnread {
         /// Whether all choices that are refuted are told.
         all: bool,
         /// The form of the answer.
@@ -367,7 +374,8 @@ fn explain<'a>(words: &ArgMatches<'a>) -> Option<Command<'a>>
 
 // The recoverable number has no limit.
 fn why_recoverable<'a>(words: &ArgMatches<'a>) -> Option<Command<'a>>
-    requires { is_flag_set (codes "recoverable") (rows_in words.now) ≡ true }
+    requires with_reads { is_flag_set (codes "without-read") (rows_in words.now) ≡ false }
+    requires recoverable { is_flag_set (codes "recoverable") (rows_in words.now) ≡ true }
     ensures { Finds (IsNamed (codes "why") (rows_in words.now)) result }
 {
     if word(words, "limit").is_some() {
@@ -378,9 +386,25 @@ fn why_recoverable<'a>(words: &ArgMatches<'a>) -> Option<Command<'a>>
     Some(Command::WhyRecoverable { all, form })
 }
 
+// The number without reads has no limit, and is not the recoverable number.
+fn why_unread<'a>(words: &ArgMatches<'a>) -> Option<Command<'a>>
+    requires { is_flag_set (codes "without-read") (rows_in words.now) ≡ true }
+    ensures { Finds (IsNamed (codes "why") (rows_in words.now)) result }
+{
+    if is_flag_set(words, "recoverable") || word(words, "limit").is_some() {
+        return None;
+    }
+    let all = words.get_flag("all");
+    let form = document_form(words)?;
+    Some(Command::WhyUnread { all, form })
+}
+
 fn why<'a>(words: &ArgMatches<'a>) -> Option<Command<'a>>
     ensures { Finds (IsNamed (codes "why") (rows_in words.now)) result }
 {
+    if is_flag_set(words, "without-read") {
+        return why_unread(words);
+    }
     if is_flag_set(words, "recoverable") {
         return why_recoverable(words);
     }

@@ -193,6 +193,12 @@ state alone tells for good which team was first: the states that runs leave whic
 those of team B, and the start state. For one process more it writes of each choice, of at most 12
 without --all, two runs that leave one state. --limit does not stand beside it.
 
+With --without-read tells why the number without reads is what it is, which classify --without-read
+writes: how each process tells, by its response or by looking, which team was first; and for one
+process more two runs in which some process gets the same, of the first choice or, with --all, of
+each. No read is added: list every way to look at the object, and exactly what each operation
+answers. Neither --limit nor --recoverable stands beside it.
+
 With --as markdown writes the number, its reason, the table and the witness for a document; with
 --as json all of it is one JSON object.
 
@@ -557,11 +563,13 @@ fn why<'a>(alloc: Global) -> Result<Command<'a>, AllocError>
     ensures { IfOk result (IsCommandFor document_forms why_words) }
 {
     let recoverable = "Tells why the recoverable number is what it is, with no limit";
+    let without_read = "Tells why the number without reads is what it is, with no limit";
     let help = "The form in which the reasons are written";
     let command = bare_command(alloc, "why", WHY_ABOUT, WHY_AFTER);
     let command = with_argument(Ok(command), table_word(alloc));
     let command = with_argument(command, limit(alloc));
     let command = with_argument(command, flag(alloc, "recoverable", recoverable));
+    let command = with_argument(command, flag(alloc, "without-read", without_read));
     let command = with_argument(command, all(alloc));
     with_argument(command, form(alloc, &DOCUMENT_FORMS, help))
 }

@@ -3,7 +3,8 @@ use Rattle.std.specs.Prelude.{◌≡◌, ◌⊎◌, ℕ, List, None, Option, Som
 use Rattle.cn_words.specs.declared.commands.Command.{Command}
 use Rattle.cn_words.specs.declared.commands.Command.TheVariants.{Find, Lint, Draw, Check}
 use Rattle.cn_words.specs.declared.commands.Command.TheVariants.{Explain, Why, WhyRecoverable}
-use Rattle.cn_words.specs.declared.commands.Command.TheVariants.{Pairs, Show, Agree, Replay, Serve}
+use Rattle.cn_words.specs.declared.commands.Command.TheVariants.{WhyUnread, Pairs, Show, Agree}
+use Rattle.cn_words.specs.declared.commands.Command.TheVariants.{Replay, Serve}
 use Rattle.cn_words.specs.declared.commands.OpeningWords.{OpeningWords}
 use Rattle.cn_words.specs.declared.commands.TextSource.{TextSource}
 use Rattle.cn_form.specs.declared.answer_form.AnswerForm.{AnswerForm}
@@ -21,6 +22,7 @@ use Rattle.cn_app.specs.Commands.Serve.{HasServeReport, SpellCalls}
 use Rattle.cn_app.specs.Commands.Show.{HasShowReport}
 use Rattle.cn_app.specs.Commands.Why.{HasWhyReport}
 use Rattle.cn_app.specs.Commands.WhyRecoverable.{HasWhyRecoverableReport}
+use Rattle.cn_app.specs.Commands.WhyUnread.{HasWhyUnreadReport}
 use Rattle.cn_io.specs.Streams.Reading.{HasRead}
 use Rattle.cn_io.specs.Streams.Writing.{IsSilent, Reports}
 use Rattle.cn_io.specs.Texts.Checked.{AreUntouched, HaveReadBoth}
@@ -49,6 +51,7 @@ certificate_of (Lint form) = None
 certificate_of Draw = None
 certificate_of (Why limit all form) = None
 certificate_of (WhyRecoverable all form) = None
+certificate_of (WhyUnread all form) = None
 certificate_of (Pairs form) = None
 certificate_of (Check certificate form) = Some certificate
 certificate_of (Explain certificate all form) = Some certificate
@@ -165,6 +168,9 @@ module _ {S D F W : Type 0} (remaining : S → Option (List ℕ)) (left : LazyFi
   RunsOn stdin table (WhyRecoverable all form) u v r =
       ReadsTable (left_of remaining left) (left_of remaining left) left contents files table
       (λ t. HasWhyRecoverableReport t all form) u v r
+  RunsOn stdin table (WhyUnread all form) u v r =
+      ReadsTable (left_of remaining left) (left_of remaining left) left contents files table
+      (λ t. HasWhyUnreadReport t all form) u v r
   RunsOn stdin table (Pairs form) u v r =
       ReadsTable (left_of remaining left) (left_of remaining left) left contents files table
       (λ t. HasPairsReport t form) u v r

@@ -261,6 +261,9 @@ fn run_on_table<T: Threads + Sync + Disk, S: Read + Copy, O: Write>(
         Command::WhyRecoverable { all, form } => {
             commands::why_recoverable(rt, alloc, table, output, all, form)
         }
+        Command::WhyUnread { all, form } => {
+            commands::why_unread(rt, alloc, table, output, all, form)
+        }
         Command::Pairs { form } => commands::pairs(rt, alloc, table, output, form),
         // The command reads no certificate.
         _ => unreachable!(),

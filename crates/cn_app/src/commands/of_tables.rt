@@ -7,12 +7,13 @@ ghost use Rattle.cn_app.specs.Commands.Lint.{HasLintReport};
 ghost use Rattle.cn_app.specs.Commands.Pairs.{HasPairsReport};
 ghost use Rattle.cn_app.specs.Commands.Why.{HasWhyReport};
 ghost use Rattle.cn_app.specs.Commands.WhyRecoverable.{HasWhyRecoverableReport};
+ghost use Rattle.cn_app.specs.Commands.WhyUnread.{HasWhyUnreadReport};
 ghost use Rattle.cn_io.specs.Streams.Reading.{HasRead, IsUnread};
 ghost use Rattle.cn_io.specs.Streams.Writing.{IsWritable, Reports};
 
 use crate::reports::{
     AskedNumbers, check_limit, draw_report, find_report, limit_for, lint_report, numbers_report,
-    pairs_report, why_recoverable_report, why_report,
+    pairs_report, why_recoverable_report, why_report, why_unread_report,
 };
 use cn_form::{AnswerForm, DocumentForm};
 use cn_io::readers::read_table;
@@ -99,6 +100,32 @@ pub fn why_recoverable<T: Threads + Sync, R: Read, W: Write>(
 {
     let table = read_table(alloc, table)?;
     output.report(why_recoverable_report(rt, alloc, table, all, form))
+}
+
+/// Reads a type table and writes why its number without reads is what it is, in a form
+/// ([`why_unread_report`]).
+///
+/// # Errors
+///
+/// The first of these: those of [`read_table`]; want of memory; the writer fails.
+pub fn why_unread<T: Threads + Sync, R: Read, W: Write>(
+    rt: &T,
+    alloc: Global,
+    table: &mut Text<R>,
+    output: &mut Output<W>,
+    all: bool,
+    form: DocumentForm,
+) -> Result<Outcome, AppFault>
+    requires table { IsUnread table.old }
+    requires output { IsWritable output.old }
+
+    ensures read { HasRead Source.Table R.remaining table.old table.new }
+    // promise: why-without-read (Reports, HasWhyUnreadReport)
+    ensures told { Reports W.contents (HasWhyUnreadReport table.new all form)
+        output.old output.new result }
+{
+    let table = read_table(alloc, table)?;
+    output.report(why_unread_report(rt, alloc, table, all, form))
 }
 
 /// Reads a type table and writes the numbers of its operations and of their pairs in a form

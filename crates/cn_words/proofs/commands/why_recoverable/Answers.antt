@@ -1,12 +1,8 @@
-use Rattle.std.proofs.Common.{◌≡◌, Bool, true, MatchBool, codes, refl, subst}
+use Rattle.std.proofs.Common.{codes, refl}
 use Rattle.clap.specs.Matches.{found_of}
 use Rattle.cn_words.specs.GivenCommands.{rows_in}
 use Rattle.cn_words.proofs.GivenLemmas.{flag_read, no_word, wants}
 use Rattle.cn_words.proofs.commands.why_recoverable.Goals as goal
-
--- what holds where the flag is set
-set : (A B : Type 0) (b : Bool) → b ≡ true → MatchBool b A B → A
-set A B b e h = subst (λ d. MatchBool d A B) e h
 
 pub returns-in_err-form : goal.returns-in_err-form
 returns-in_err-form c = rw c.from_residual.ensures (λ command is.
@@ -16,7 +12,8 @@ pub returns : goal.returns
 returns c = (
   refl,
   (
-    c.requires,
+    c.requires.recoverable,
+    c.requires.with_reads,
     no_word c.word.result _ c.is_some.result c.word.ensures c.is_some.ensures c.if-is_some.false,
     flag_read (found_of c.args.words.now) (codes "all") c.get_flag-all.result c.get_flag-all.ensures.none c.get_flag-all.ensures.value c.get_flag-all.ensures.other,
     c.in_ok-form.ensures,

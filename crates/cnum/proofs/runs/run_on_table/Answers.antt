@@ -35,6 +35,13 @@ returns-in-WhyRecoverable g c = λ stdin. rw c.in-WhyRecoverable.is (record {
   reported = c.why_recoverable.ensures.told;
 })
 
+pub returns-in-WhyUnread : goal.returns-in-WhyUnread
+returns-in-WhyUnread g c = λ stdin. rw c.in-WhyUnread.is (record {
+  after = c.why_unread.new.table;
+  read = c.why_unread.ensures.read;
+  reported = c.why_unread.ensures.told;
+})
+
 pub returns-in-Pairs : goal.returns-in-Pairs
 returns-in-Pairs g c = λ stdin. rw c.in-Pairs.is (record {
   after = c.pairs.new.table;

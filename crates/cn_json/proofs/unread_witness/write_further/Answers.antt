@@ -1,0 +1,5 @@
+use Rattle.cn_json.proofs.Pieces.{piece}
+use Rattle.cn_json.proofs.unread_witness.write_further.Goals as goal
+
+pub returns : goal.returns
+returns c = piece c.in_ok-begin_array_at.ensures c.write_each_operation.ensures
