@@ -50,14 +50,17 @@ witness_start t w = decimal w.processes ++ (codes " processes: from state "
     ++ (codes ", each can tell which team was first, by what it gets.\n"
     ++ (next_steps t [] w ++ []))))
 
--- the table of what they get, if that is told
+-- the table of what they get
 unfoldable pub views_table : TypeTable → List UnreadView → List ℕ
-views_table t views = if length views == 0 then []
-    else codes "\n| Processes | Team | Operation | Team A first | Team B first |\n"
+views_table t views = codes "\n| Processes | Team | Operation | Team A first | Team B first |\n"
     ++ (name_rule 5 ++ (flat_map (view_row t) views ++ []))
 
+-- the same, if that is told
+abbrev pub views_told : TypeTable → List UnreadView → List ℕ
+views_told t views = if length views == 0 then [] else views_table t views
+
 unfoldable pub witness_table : TypeTable → UnreadWitness → List ℕ
-witness_table t w = witness_start t w ++ (views_table t w.views.items ++ [])
+witness_table t w = witness_start t w ++ (views_told t w.views.items ++ [])
 
 abbrev pub witness_markdown : TypeTable → Option UnreadWitness → List ℕ
 witness_markdown t None = alone_line
