@@ -1,7 +1,7 @@
 -- Sets that have all states to which operations lead.
-use Rattle.std.proofs.Common.{◌≡◌, ℕ, ◌<◌, ◌⊎◌, inl, inr, List, [], ◌∷◌, length, arith}
+use Rattle.std.proofs.Common.{ℕ, ◌<◌, [], ◌∷◌, length, arith}
 use Rattle.std.specs.Prelude.{IsBitSet, slice_index}
-use Rattle.cn_table.specs.TypeTable.{IsClosed, TypeTable, transition}
+use Rattle.cn_table.specs.TypeTable.{IsClosed, TypeTable}
 use Rattle.cn_signs.specs.SignChoices.{IsKnownChoice}
 use Rattle.cn_signs.specs.StateSets.{unsigned}
 use Rattle.cn_signs.specs.declared.sign_choice.SignChoice.{SignChoice}

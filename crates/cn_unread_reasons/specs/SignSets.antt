@@ -1,5 +1,5 @@
 -- Sets of states, for signs. The bits of a number are the members of a set.
-use Rattle.std.specs.Prelude.{◌≡◌, ◌≢◌, ℕ, ◌<◌, List, length, All, IsBitSet}
+use Rattle.std.specs.Prelude.{◌≢◌, ℕ, ◌<◌, List, length, All, IsBitSet}
 use Rattle.cn_table.specs.TypeTable.{TypeTable, transition}
 use Rattle.cn_choice.specs.declared.team.Team.{Team}
 use Rattle.cn_signs.specs.StateSets.{unsigned}

@@ -1,4 +1,4 @@
-use Rattle.std.proofs.Common.{◌<◌, length, refl}
+use Rattle.std.proofs.Common.{refl}
 use Rattle.cn_unread_reasons.proofs.Led.{leads_in}
 use Rattle.cn_unread_reasons.proofs.sign_states.states_of_a.Goals as goal
 

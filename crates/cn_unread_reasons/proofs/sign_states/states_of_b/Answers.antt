@@ -1,4 +1,4 @@
-use Rattle.std.proofs.Common.{◌<◌, inl, inr, length, arith, refl}
+use Rattle.std.proofs.Common.{inl, inr, arith, refl}
 use Rattle.cn_unread_reasons.proofs.Led.{leads_in}
 use Rattle.cn_unread_reasons.proofs.sign_states.states_of_b.Goals as goal
 

@@ -1,5 +1,4 @@
-use Rattle.std.proofs.Common.{◌≡◌, ◌∙◌, ◌<◌, List, [], ◌∷◌, ◌++◌, All, Contains, ap, arith, length}
-use Rattle.std.specs.Prelude.{Vec}
+use Rattle.std.proofs.Common.{List, All, Contains, arith}
 use Rattle.std.proofs.lemmas.List.Elements.{All-push, All-same}
 use Rattle.cn_unread_reasons.specs.Known.{IsKnownAnswer}
 use Rattle.cn_unread_reasons.specs.SignSets.{IsNeverIn}
