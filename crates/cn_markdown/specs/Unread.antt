@@ -1,5 +1,6 @@
 -- An explanation of a number without reads in Markdown.
-use Rattle.std.specs.Prelude.{codes, ℕ, ◌+◌, List, [], ◌∷◌, ◌++◌, flat_map, Option, Some, None}
+use Rattle.std.specs.Prelude.{codes, ℕ, ◌+◌, ◌==◌, List, [], ◌∷◌, ◌++◌, length}
+use Rattle.std.specs.Prelude.{flat_map, if◌then◌else◌, Option, Some, None}
 use Rattle.std.specs.Fmt.{decimal}
 use Rattle.cn_table.specs.Names.{name_at}
 use Rattle.cn_table.specs.TypeTable.{TypeTable, operation_names}
@@ -47,12 +48,19 @@ unfoldable pub witness_start : TypeTable → UnreadWitness → List ℕ
 witness_start t w = decimal w.processes ++ (codes " processes: from state "
     ++ (name_at t.states w.choice.start.0
     ++ (codes ", each can tell which team was first, by what it gets.\n"
-    ++ (next_steps t [] w
-    ++ (codes "\n| Processes | Team | Operation | Team A first | Team B first |\n" ++ [])))))
+    ++ (next_steps t [] w ++ []))))
+
+-- the table of what they get
+unfoldable pub views_table : TypeTable → List UnreadView → List ℕ
+views_table t views = codes "\n| Processes | Team | Operation | Team A first | Team B first |\n"
+    ++ (name_rule 5 ++ (flat_map (view_row t) views ++ []))
+
+-- the same, if that is told
+abbrev pub views_told : TypeTable → List UnreadView → List ℕ
+views_told t views = if length views == 0 then [] else views_table t views
 
 unfoldable pub witness_table : TypeTable → UnreadWitness → List ℕ
-witness_table t w =
-    witness_start t w ++ (name_rule 5 ++ (flat_map (view_row t) w.views.items ++ []))
+witness_table t w = witness_start t w ++ (views_told t w.views.items ++ [])
 
 abbrev pub witness_markdown : TypeTable → Option UnreadWitness → List ℕ
 witness_markdown t None = alone_line

@@ -2,7 +2,7 @@
 ghost use Rattle.std.specs.Prelude.{◌≡◌, ◌++◌, All, IfOk, OnOk, codes, flat_map, string_bytes};
 ghost use Rattle.cn_markdown.specs.Explanation.{start};
 ghost use Rattle.cn_markdown.specs.Numbers.{unread_head};
-ghost use Rattle.cn_markdown.specs.Unread.{least_markdown, marked_sight, no_more, no_more_with_reads, sights, signs_markdown, unread_markdown, unread_reasons, view_row, with_reads_line, with_reads_markdown, witness_markdown, witness_start, witness_table};
+ghost use Rattle.cn_markdown.specs.Unread.{least_markdown, marked_sight, no_more, no_more_with_reads, sights, signs_markdown, unread_markdown, unread_reasons, view_row, views_table, views_told, with_reads_line, with_reads_markdown, witness_markdown, witness_start, witness_table};
 ghost use Rattle.cn_unread_number.specs.BoundsText.{bounds_text};
 ghost use Rattle.cn_unread_reasons.specs.Known.{IsKnownSigns, IsKnownUnreadSight, IsKnownUnreadView, IsKnownUnreadWitness, IsUnreadExplanation};
 
@@ -109,11 +109,38 @@ fn push_witness_start(
         text,
         "{processes} processes: from state {start}, each can tell which team was first, by what it gets.\n"
     )?;
-    push_next_steps(text, table, "", witness)?;
+    push_next_steps(text, table, "", witness)
+}
+
+/// The table of what the processes get.
+#[tactic(auto, unfolding(crate::specs::Unread::views_table))]
+fn push_views_table(
+    text: &mut String,
+    table: &Table,
+    views: &[UnreadView],
+) -> Result<(), AllocError>
+    requires { All (IsKnownUnreadView table.now) views.now }
+    ensures { OnOk result (string_bytes text.new
+        ≡ string_bytes text.old ++ views_table table.now views.now) }
+{
     push_pieces(
         text,
         &["\n| Processes | Team | Operation | Team A first | Team B first |\n"],
-    )
+    )?;
+    push_name_rule(text, 5)?;
+    push_views(text, table, views)
+}
+
+/// The same, if that is told.
+fn push_views_told(text: &mut String, table: &Table, views: &[UnreadView]) -> Result<(), AllocError>
+    requires { All (IsKnownUnreadView table.now) views.now }
+    ensures { OnOk result (string_bytes text.new
+        ≡ string_bytes text.old ++ views_told table.now views.now) }
+{
+    if views.is_empty() {
+        return Ok(());
+    }
+    push_views_table(text, table, views)
 }
 
 #[tactic(auto, unfolding(crate::specs::Unread::witness_table))]
@@ -127,8 +154,7 @@ fn push_witness_table(
         ≡ string_bytes text.old ++ witness_table table.now witness.now) }
 {
     push_witness_start(text, table, witness)?;
-    push_name_rule(text, 5)?;
-    push_views(text, table, witness.views.as_slice())
+    push_views_told(text, table, witness.views.as_slice())
 }
 
 /// The witness, if there is one.

@@ -3,7 +3,7 @@ ghost use Rattle.std.specs.Prelude.{◌≡◌, ◌++◌, string_bytes, IfOk, OnO
 ghost use Rattle.cn_sentences.specs.Unread.{merged_text, undecided};
 ghost use Rattle.cn_text.specs.Folded.{folded};
 ghost use Rattle.cn_text.specs.Reasons.{start_text};
-ghost use Rattle.cn_text.specs.Unread.{is_least, least_line, least_part, no_more, no_more_with_reads, signs_text, trap_line, trap_plays, trap_text, unread_reasons, unread_text, with_reads_line, with_reads_reason, witness_lines, witness_part, witness_text};
+ghost use Rattle.cn_text.specs.Unread.{is_least, least_line, least_part, no_more, no_more_with_reads, signs_text, trap_line, trap_plays, trap_text, unread_reasons, unread_text, views_part, with_reads_line, with_reads_reason, witness_lines, witness_part, witness_text};
 ghost use Rattle.cn_text.specs.declared.reasons.NumberKind.TheVariants.{Unread};
 ghost use Rattle.cn_unread_number.specs.BoundsText.{bounds_text};
 ghost use Rattle.cn_unread_reasons.specs.Known.{IsKnownSigns, IsKnownTrap, IsKnownUnreadWitness, IsUnreadExplanation};
@@ -66,6 +66,29 @@ fn push_witness_lines(
     push_next_steps(text, table, "  ", witness)
 }
 
+/// What the processes of the witness get, if that is told.
+#[tactic(auto, unfolding(crate::specs::Unread::views_part))]
+fn push_views_part(
+    alloc: Global,
+    text: &mut String,
+    table: &Table,
+    witness: &UnreadWitness,
+) -> Result<(), AllocError>
+    requires { IsKnownUnreadWitness table.now witness.now }
+    ensures { OnOk result (string_bytes text.new
+        ≡ string_bytes text.old ++ views_part table.now witness.now) }
+{
+    let views = witness.views.as_slice();
+    if views.is_empty() {
+        return text.push_str("  Each process can tell which team was first by what it gets.\n");
+    }
+    push_unread_views(alloc, text, table, &witness.choice, views)?;
+    push_pieces(
+        text,
+        &["  No process gets the same on both sides, so each can tell which team was first.\n"],
+    )
+}
+
 /// What the processes of the witness do, and what they get.
 #[tactic(auto, unfolding(crate::specs::Unread::witness_text))]
 fn push_witness(
@@ -81,17 +104,7 @@ fn push_witness(
     let mut lines = String::new(alloc);
     push_witness_lines(&mut lines, table, witness)?;
     push_folded(alloc, text, lines.as_str())?;
-    push_unread_views(
-        alloc,
-        text,
-        table,
-        &witness.choice,
-        witness.views.as_slice(),
-    )?;
-    push_pieces(
-        text,
-        &["  No process gets the same on both sides, so each can tell which team was first.\n"],
-    )
+    push_views_part(alloc, text, table, witness)
 }
 
 /// The signs, and what the processes do.

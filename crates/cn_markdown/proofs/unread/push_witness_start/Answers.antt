@@ -8,4 +8,4 @@ pub returns : goal.returns
 unfolding witness_start
 returns c =
     let start : c.state_name-start.result.now ≡ name_at c.args.table.now.states c.args.witness.now.choice.start.0 = search rules in
-    as_wanted _ _ _ _ c.push_pieces.ensures (rw (c.in_ok-push_next_steps.ensures, c.in_ok-write.ensures.bytes, ← start) (simp (append_assoc, append-nil)))
+    as_wanted _ _ _ _ c.push_next_steps.ensures (rw (c.in_ok-write.ensures.bytes, ← start) (simp (append_assoc, append-nil)))

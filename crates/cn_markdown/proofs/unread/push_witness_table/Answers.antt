@@ -5,6 +5,4 @@ use Rattle.cn_markdown.proofs.unread.push_witness_table.Goals as goal
 
 pub returns : goal.returns
 unfolding witness_table
-returns c =
-    as_wanted _ _ _ _ c.push_views.ensures
-    (rw (c.in_ok-push_name_rule.ensures, c.in_ok-push_witness_start.ensures, c.as_slice.ensures.value) (simp (append_assoc, append-nil)))
+returns c = as_wanted _ _ _ _ c.push_views_told.ensures (rw (c.in_ok-push_witness_start.ensures, c.as_slice.ensures.value) (simp (append_assoc, append-nil)))
