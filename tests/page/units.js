@@ -467,6 +467,8 @@ describe('notes on a table', () => {
         const text = Cnum.FIRST_TABLE.replace('"op0"', `"${LOOP.name}"`).replace('next = ["s1", "s1"]', 'next = ["s0", "s1"]');
         assert.deepEqual(Cnum.notesOf(text), ['State s1 cannot be reached from s0.', 'Operation nop changes nothing.']);
         assert.deepEqual(Cnum.notesOf(Cnum.FIRST_TABLE), []);
+        const look = text.replace(/response = .*/, 'response = ["ok", "no"]').replace('responses = [', 'responses = ["no", ');
+        assert.equal(Cnum.notesOf(look)[1], 'Operation nop changes nothing. It counts where the state cannot be read.');
     });
 });
 

@@ -20,12 +20,16 @@ var Cnum = globalThis.Cnum || {};
     Cnum.notesOf = function (text) {
         const table = new Cnum.TableText(text);
         const states = table.items('states').map(it => it.text);
-        const operations = table.operations.map(it => ({ name: it.name.text, next: it.next.map(one => one.text) }));
+        const operations = table.operations.map(it => ({
+            name: it.name.text,
+            response: it.response.map(one => one.text),
+            next: it.next.map(one => one.text),
+        }));
         const met = reached(states, operations);
         const idle = operations.filter(it => it.next.every((state, place) => state === states[place]));
         return [
             ...states.filter(it => !met.includes(it)).map(state => say('note_state', { state, first: states[0] })),
-            ...idle.map(({ name }) => say('note_operation', { operation: name })),
+            ...idle.map(({ name, response }) => say(new Set(response).size > 1 ? 'note_look' : 'note_operation', { operation: name })),
         ];
     };
 })();

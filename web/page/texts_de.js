@@ -278,6 +278,7 @@ Cnum.languages.de.texts = {
     most: 'Eine Tabelle hat höchstens {most}.',
     note_state: 'Zustand {state} ist von {first} aus nicht zu erreichen.',
     note_operation: 'Operation {operation} ändert nichts.',
+    note_look: 'Operation {operation} ändert nichts. Sie zählt, wo der Zustand nicht gelesen werden kann.',
 
     // Vergleiche.
     each_pair: 'Je zwei Operationen',

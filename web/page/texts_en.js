@@ -279,6 +279,7 @@ Cnum.languages.en.texts = {
     most: 'A table has at most {most}.',
     note_state: 'State {state} cannot be reached from {first}.',
     note_operation: 'Operation {operation} changes nothing.',
+    note_look: 'Operation {operation} changes nothing. It counts where the state cannot be read.',
 
     // Comparisons.
     each_pair: 'Each pair of operations',

@@ -2,7 +2,6 @@
 use Rattle.std.specs.Prelude.{ℕ, ◌==◌, List, [], ◌∷◌, ◌++◌, codes}
 use Rattle.std.specs.Prelude.{Option, Some, None, flat_map, if◌then◌else◌, length}
 use Rattle.std.specs.Fmt.{decimal}
-use Rattle.std.specs.Str.{bytes_eq}
 use Rattle.cn_table.specs.Names.{name_at}
 use Rattle.cn_table.specs.TypeTable.{TypeTable, operation_names}
 use Rattle.cn_choice.specs.TeamNames.{team_name}
@@ -22,11 +21,10 @@ use Rattle.cn_unread_reasons.specs.declared.witness.UnreadWitness.{UnreadWitness
 
 -- ---- states that are one
 
--- a state with another name than the state that stands for it
+-- a state, and the one that stands for it
 unfoldable pub merged_line : TypeTable → TypeTable → MergedState → List ℕ
 merged_line given t m =
-    if bytes_eq (name_at given.states m.state.0) (name_at t.states m.class.0) then []
-    else codes "No operations tell " ++ (name_at given.states m.state.0 ++ (codes " from "
+    codes "No operations tell " ++ (name_at given.states m.state.0 ++ (codes " from "
     ++ (name_at t.states m.class.0 ++ (codes ", so they are one state here.\n" ++ []))))
 
 -- all of them, before an empty line

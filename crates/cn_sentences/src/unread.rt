@@ -11,7 +11,7 @@ use cn_unread_number::{NumberBounds, Telling};
 use cn_unread_reasons::{Answer, MergedState, SignWitness, UnreadSight, UnreadWitness};
 use std::alloc::AllocError;
 
-/// A state and the state that stands for it, if they have different names.
+/// A state and the one that stands for it.
 #[tactic(auto, unfolding(crate::specs::Unread::merged_line))]
 fn push_merged_line(
     text: &mut String,
@@ -25,9 +25,6 @@ fn push_merged_line(
 {
     let state = given.state_name(merged.state);
     let class = table.state_name(merged.class);
-    if state == class {
-        return Ok(());
-    }
     push_pieces(
         text,
         &[
@@ -56,8 +53,8 @@ fn push_merged_lines(
     Ok(())
 }
 
-/// Writes a line for each state of the table that was given which has another name than the state
-/// that stands for it, and then an empty line; nothing if the list is empty.
+/// Writes a line for each state for which another one stands, and then an empty line; nothing if
+/// there are none.
 ///
 /// # Errors
 ///

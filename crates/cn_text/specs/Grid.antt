@@ -1,6 +1,6 @@
 -- A table as a grid: a line for each operation, a column for each state.
-use Rattle.std.specs.Prelude.{◌≡◌, ℕ, ◌+◌, ◌==◌, List, [], ◌++◌, length, codes, nat_lt, flat_map}
-use Rattle.std.specs.Prelude.{get_or, Bool, false, if◌then◌else◌}
+use Rattle.std.specs.Prelude.{◌≡◌, ℕ, zero, suc, ◌+◌, ◌==◌, ◌&&◌, List, [], ◌++◌, length, codes, nat_lt}
+use Rattle.std.specs.Prelude.{flat_map, get_or, Bool, true, false, if◌then◌else◌}
 use Rattle.std.specs.List.{range_with_len}
 use Rattle.cn_table.specs.Names.{name_at}
 use Rattle.cn_table.specs.Reach.{changes_nothing, AreReached}
@@ -46,10 +46,20 @@ state_mark t q is_reached =
     if is_reached then [] else codes "state " ++ (name_at t.states q
     ++ (codes ": cannot be reached from " ++ (name_at t.states 0 ++ (codes "\n" ++ []))))
 
+-- the operation gets the same response in each of the first n states as in the first one
+abbrev pub answers_alike : TypeTable → ℕ → ℕ → Bool
+answers_alike t o zero = true
+answers_alike t o (suc n) = answers_alike t o n && ((transition t o n).0 == (transition t o 0).0)
+
+-- what an operation is good for that changes nothing: if its responses differ, it is a way to look
+abbrev pub use_words : TypeTable → ℕ → List ℕ
+use_words t o = if answers_alike t o (length t.states) then codes "\n"
+    else codes "; it counts where the state cannot be read (classify --without-read)\n"
+
 -- a line for an operation that changes nothing
 unfoldable pub operation_mark : TypeTable → ℕ → List ℕ
 operation_mark t o = if changes_nothing t o then codes "operation "
-    ++ (name_at (operation_names t) o ++ (codes ": changes nothing\n" ++ [])) else []
+    ++ (name_at (operation_names t) o ++ (codes ": changes nothing" ++ (use_words t o ++ []))) else []
 
 unfoldable pub grid_text : TypeTable → List Bool → List ℕ
 grid_text t reached_states =

@@ -1,10 +1,11 @@
 //! A table as a grid, for people.
 ghost use Rattle.std.specs.Prelude.{◌≡◌, ◌<◌, ◌++◌, IfOk, OnOk, flat_map, get_or, false, length, string_bytes};
 ghost use Rattle.std.specs.List.{range_with_len};
-ghost use Rattle.cn_text.specs.Grid.{cell, cell_width, cells_text, grid_text, head_cell, name_cell, operation_line, operation_mark, row_end, state_mark, IsGrid};
+ghost use Rattle.cn_text.specs.Grid.{answers_alike, cell, cell_width, cells_text, grid_text, head_cell, name_cell, operation_line, operation_mark, row_end, state_mark, use_words, IsGrid};
 
 use crate::columns::{Named, push_padded, widest_name};
 use cn_pieces::push_pieces;
+use cn_table::laws::tables_are_valid;
 use cn_table::{MOST_STATES, Operation, State, Table};
 use std::alloc::{AllocError, Global};
 
@@ -186,6 +187,33 @@ fn push_state_marks(
     Ok(())
 }
 
+/// Whether the operation gets one response in all states.
+fn answers_alike(table: &Table, operation: Operation) -> bool
+    requires { operation.0 < length table.now.operations }
+    ensures { result ≡ answers_alike table.now operation.0 (length table.now.states) }
+{
+    tables_are_valid(table);
+    let (first, _) = table.apply(operation, State(0));
+    let mut is_alike = true;
+    for state in 0..table.states() {
+        let (response, _) = table.apply(operation, State(state));
+        is_alike = is_alike && response.0 == first.0;
+    }
+    is_alike
+}
+
+/// What an operation is good for that changes nothing.
+fn use_words<'a>(table: &'a Table, operation: Operation) -> &'a str
+    requires { operation.0 < length table.now.operations }
+    ensures { result.now ≡ use_words table.now operation.0 }
+{
+    if answers_alike(table, operation) {
+        "\n"
+    } else {
+        "; it counts where the state cannot be read (classify --without-read)\n"
+    }
+}
+
 #[tactic(auto, unfolding(crate::specs::Grid::operation_mark))]
 fn push_operation_mark(
     text: &mut String,
@@ -204,7 +232,8 @@ fn push_operation_mark(
         &[
             "operation ",
             table.operation_name(operation),
-            ": changes nothing\n",
+            ": changes nothing",
+            use_words(table, operation),
         ],
     )
 }

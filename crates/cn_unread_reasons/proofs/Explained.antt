@@ -1,5 +1,5 @@
 -- What evidence shows of the parts of an explanation.
-use Rattle.std.proofs.Common.{◌≡◌, ℕ, ◌+◌, ◌<◌, ◌≤◌, List, [], ◌∷◌, length, All, Bool, true, false, cond, arith}
+use Rattle.std.proofs.Common.{ℕ, ◌<◌, ◌≤◌, List, [], ◌∷◌, length, All, Bool, true, false, cond, arith}
 use Rattle.std.specs.Prelude.{slice_index}
 use Rattle.std.proofs.lemmas.List.Elements.{All-cons, All-nil}
 use Rattle.cn_table.specs.TypeTable.{TypeTable}
@@ -27,8 +27,10 @@ module _ (t u : TypeTable) (class_of : List ℕ) (is : IsWhollyMerged t u class_
     where
       m : MergedState
       m = record { state = record { 0 = q }; class = record { 0 = slice_index class_of q } }
+
       known : IsKnownMerged t u m
       known = let here : q < length t.states = omega (arith, less, is.each) in record { state = here; class = is.merged.merges.known q here }
+
       by_test : (b : Bool) → All (IsKnownMerged t u) (cond {A = List MergedState} b (m ∷ []) [])
       by_test true = All-cons (IsKnownMerged t u) m [] known (All-nil (IsKnownMerged t u))
       by_test false = All-nil (IsKnownMerged t u)

@@ -1,5 +1,5 @@
 -- Choices and operations of a table.
-use Rattle.std.proofs.Common.{◌≡◌, ℕ, ◌+◌, ◌<◌, ◌≤◌, List, [], ◌∷◌, length, All, arith, subst, sym}
+use Rattle.std.proofs.Common.{ℕ, ◌<◌, ◌≤◌, List, [], ◌∷◌, length, All, arith, subst, sym}
 use Rattle.std.proofs.lemmas.List.Elements.{All-cons, All-head, All-nil, All-tail}
 use Rattle.cn_table.specs.TypeTable.{TypeTable}
 use Rattle.cn_table.specs.declared.elements.Operation.{Operation}

@@ -1,3 +1,4 @@
 pub mod EachOnce
 pub mod Explained
 pub mod Fits
+pub mod Led

@@ -1,5 +1,5 @@
 -- Signs, as they are told.
-use Rattle.std.specs.Prelude.{◌≡◌, ◌≢◌, ℕ, All, Contains}
+use Rattle.std.specs.Prelude.{◌≢◌, ℕ, All, Contains}
 use Rattle.cn_table.specs.TypeTable.{TypeTable, transition}
 use Rattle.cn_choice.specs.Renumbering.{other}
 use Rattle.cn_signs.specs.SignChoices.{HasSigns}

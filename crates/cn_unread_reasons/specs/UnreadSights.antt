@@ -1,5 +1,5 @@
 -- What a process gets without reads, by the team that moves first.
-use Rattle.std.specs.Prelude.{◌≡◌, ◌≢◌, ◌↔◌, ℕ, List, [], map, AllPairs, Contains}
+use Rattle.std.specs.Prelude.{◌≢◌, ◌↔◌, ℕ, List, map, AllPairs, Contains}
 use Rattle.cn_table.specs.TypeTable.{TypeTable, transition}
 use Rattle.cn_choice.specs.Canonical.{Choice}
 use Rattle.cn_choice.specs.declared.team.Team.{Team}

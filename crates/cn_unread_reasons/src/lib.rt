@@ -17,7 +17,10 @@ mod play;
 mod runs;
 mod search;
 mod sight;
+mod sign_states;
 mod signs;
+#[cfg(test)]
+mod tests;
 mod trap;
 mod witness;
 

@@ -33,7 +33,7 @@ impl Default for Answer {
 }
 
 /// What a process gets: the response to its operation of the choice, and then the answers of the
-/// operations that change nothing, in order, or of the one further operation.
+/// operations that change nothing, in order.
 #[derive(Drop)]
 pub struct UnreadSight {
     /// The response to its operation of the choice.

@@ -1,4 +1,4 @@
-use Rattle.std.proofs.Common.{length, ◌<◌}
+use Rattle.std.proofs.Common.{length}
 use Rattle.cn_unread_reasons.proofs.runs.+state_left.Given as goal
 
 abbrev pub decreases-state_left : goal.decreases-state_left

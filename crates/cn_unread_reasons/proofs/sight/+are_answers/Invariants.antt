@@ -1,4 +1,4 @@
-use Rattle.std.proofs.Common.{length, ◌<◌}
+use Rattle.std.proofs.Common.{length}
 use Rattle.cn_unread_reasons.proofs.sight.+are_answers.Given as goal
 
 abbrev pub decreases-are_answers : goal.decreases-are_answers

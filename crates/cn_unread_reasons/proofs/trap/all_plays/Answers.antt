@@ -1,4 +1,4 @@
-use Rattle.std.proofs.Common.{◌≡◌, ◌∙◌, List, [], ◌∷◌, ◌++◌, ap, append-nil, append_assoc, subst, sym}
+use Rattle.std.proofs.Common.{◌≡◌, ◌∙◌, List, ◌++◌, ap, append-nil, append_assoc, subst, sym}
 use Rattle.std.specs.List.{AllZip}
 use Rattle.cn_table.proofs.Lists.{Contains-between}
 use Rattle.cn_choice.specs.Canonical.{Choice}

@@ -1,4 +1,4 @@
-use Rattle.std.proofs.Common.{◌≡◌, ◌≤◌, List, length, length-take, take, Bool, true, false, arith, refl}
+use Rattle.std.proofs.Common.{◌≤◌, List, length, length-take, take, Bool, true, false, arith, refl}
 use Rattle.std.specs.List.{AllZip}
 use Rattle.std.proofs.lemmas.Slice.Zip.{AllZip-long}
 use Rattle.cn_choice.specs.Live.{live_choices}
