@@ -1,12 +1,12 @@
 //! Why a number without reads is no less.
-ghost use Rattle.std.specs.Prelude.{◌≤◌, IfOk, IfSome};
+ghost use Rattle.std.specs.Prelude.{◌≤◌, All, IfOk, IfSome, IsSome};
 ghost use Rattle.cn_choice.specs.Canonical.{raw_choice_of};
 ghost use Rattle.cn_choice.specs.RawChoices.{IsRawChoice};
 ghost use Rattle.cn_choice.specs.declared.limits.TheConstants.{MOST_PROCESSES};
 ghost use Rattle.cn_further.specs.FurtherNodes.{TellsFirst};
 ghost use Rattle.cn_unread_number.specs.Evidence.{ShowsLeast};
-ghost use Rattle.cn_unread_reasons.specs.Known.{IsKnownUnreadWitness};
-ghost use Rattle.cn_unread_reasons.specs.UnreadExplanations.{IsWitnessFor};
+ghost use Rattle.cn_unread_reasons.specs.Known.{IsKnownFollowUp, IsKnownUnreadWitness};
+ghost use Rattle.cn_unread_reasons.specs.UnreadExplanations.{IsTold, IsWitnessFor};
 ghost use Rattle.cn_unread_reasons.specs.LowReasons.{IsKnownLow, IsLowFor};
 ghost use Rattle.cn_views.specs.VisibleChoices.{SomeLooksTell};
 
@@ -63,6 +63,7 @@ fn seen_witness(
     requires told { SomeLooksTell table.now (raw_choice_of choice.now) }
     ensures witness { IfOk result (λ found. IfSome found (IsWitnessFor table.now n n)) }
     ensures known { IfOk result (λ found. IfSome found (IsKnownUnreadWitness table.now)) }
+    ensures found { 2 ≤ n → n ≤ MOST_PROCESSES → IfOk result (λ found. IsSome found) }
 {
     if n < 2 || n as usize > MOST_PROCESSES {
         return Ok(None);
@@ -75,6 +76,8 @@ fn helped_witness(alloc: Global, table: &Table, further: Further, n: u8) -> Opti
     requires { TellsFirst table.now n further.choice further.follow_ups.items }
     ensures witness { IfSome result (IsWitnessFor table.now n n) }
     ensures known { IfSome result (IsKnownUnreadWitness table.now) }
+    ensures found { 2 ≤ n → n ≤ MOST_PROCESSES
+        → All (IsKnownFollowUp table.now) further.follow_ups.items → IsSome result }
 {
     if n < 2 || n as usize > MOST_PROCESSES {
         return None;
@@ -96,6 +99,8 @@ impl Low {
         requires few { limit ≤ MOST_PROCESSES }
         ensures low { IfOk result (IsLowFor table.now n limit) }
         ensures known { IfOk result (IsKnownLow table.now) }
+        ensures told { IfOk result (λ low.
+            IsTold table.now least n low.telling low.witness low.signs) }
     {
         let (telling, witness, signs) = (None, None, None);
         match least {

@@ -5,7 +5,7 @@ use Rattle.cn_reasons.proofs.Evidence.{limit_within}
 use Rattle.cn_unread_number.specs.Evidence.{ShowsLeast}
 use Rattle.cn_unread_reasons.specs.Known.{IsKnownMerged}
 use Rattle.cn_unread_reasons.specs.MergedStates.{merged_states}
-use Rattle.cn_unread_reasons.specs.UnreadExplanations.{IsWitnessFor}
+use Rattle.cn_unread_reasons.specs.UnreadExplanations.{IsTold, IsWitnessFor}
 use Rattle.cn_unread_reasons.proofs.Explained.{known_merged, shown_least}
 use Rattle.cn_unread_reasons.proofs.explanation.explained.Goals as goal
 
@@ -40,8 +40,12 @@ returns c =
       table = c.requires.merged;
       merged = merged;
       telling = low.telling;
+      low = c.args.found.evidence.least;
+      high = c.args.found.evidence.most;
+      shown = c.requires.shown;
       limit = limit;
       is_limit = c.greatest_limit-limit.ensures;
+      told = subst (λ (n : ℕ). IsTold t c.args.found.evidence.least n c.in_ok-low.low.telling c.in_ok-low.low.witness c.in_ok-low.low.signs) c.least_of.ensures c.in_ok-low.ensures.told;
       witness = subst (λ (n : ℕ). IfSome c.in_ok-low.low.witness (IsWitnessFor t n limit)) c.least_of.ensures low.witness;
       signs = low.signs;
       most = c.in_ok-most.ensures.reason;
