@@ -5,3 +5,4 @@ pub mod NumberWords
 pub mod NumbersTold
 pub mod OneOutput
 pub mod TypeNumbers
+pub mod UnreadLines

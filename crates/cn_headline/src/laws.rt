@@ -1,10 +1,11 @@
 //! The laws. A law is a function that does nothing: its contract is the law.
-ghost use Rattle.std.specs.Prelude.{◌≡◌, ◌≤◌, ◌<◌, ◌++◌, ℕ, List, Option, Ok, codes, false};
-ghost use Rattle.std.specs.Prelude.{string_bytes, true};
+ghost use Rattle.std.specs.Prelude.{◌≡◌, ◌≤◌, ◌<◌, ◌++◌, ℕ, Bool, List, Option, Some, Ok, codes, false};
+ghost use Rattle.std.specs.Prelude.{option_map, string_bytes, true};
 ghost use Rattle.cn_table.specs.TypeTable.{IsTypeTable, TypeTable};
 ghost use Rattle.cn_app.specs.Commands.Classify.{IsClassificationOf, IsClassified};
 ghost use Rattle.cn_app.specs.Commands.Classify.{IsRecoverablyClassified, classification_line};
-ghost use Rattle.cn_app.specs.Commands.Classify.{line_with, line_with_both, number_words};
+ghost use Rattle.cn_app.specs.Commands.Classify.{line_of, line_with, line_with_both, number_words};
+ghost use Rattle.cn_app.specs.Commands.Classify.{words_of};
 ghost use Rattle.cn_cert.specs.Certificate.{Certificate};
 ghost use Rattle.cn_cert.specs.CertificateText.{certificate_text};
 ghost use Rattle.cn_json.specs.declared.numbers.Classification.{Classification};
@@ -27,6 +28,9 @@ ghost use Rattle.cn_io.specs.Texts.Contents.{object_in, certificate_in, table_in
 ghost use Rattle.cn_io.specs.Streams.Reading.{ReadsKnownBytes};
 ghost use Rattle.cn_io.specs.declared.report.Report.{Report};
 ghost use Rattle.cn_app.specs.declared.reports.lives.AskedLives.{AskedLives};
+ghost use Rattle.cn_unread_number.specs.BoundsText.{bounds_text};
+ghost use Rattle.cn_unread_number.specs.declared.bounds.NumberBounds.{NumberBounds};
+ghost use Rattle.cn_unread_laws.specs.Bounds.{AreBoundsOf, AreSmall};
 ghost use Rattle.cn_headline.specs.ConsensusNumber.{IsExcluded, IsNumberText, IsRecoverablyExcluded};
 ghost use Rattle.cn_headline.specs.ConsensusNumber.{TellsConsensus, TellsNumber, TellsRecoverable};
 ghost use Rattle.cn_headline.specs.ConsensusNumber.{WordsTell};
@@ -47,6 +51,7 @@ use cn_proto::laws::{plan_protocols_are_sound, unique_plan};
 use cn_recover::laws::RecordingType;
 use cn_solvable::laws::{number_is_the_consensus_number, witness_is_enough};
 use cn_table::laws::{spelled_tables, tables_are_closed};
+use cn_unread_laws::laws::{bounds_are_told, found_bounds_hold};
 use std::io::Read;
 
 /// `find` writes one text for a table and a limit.
@@ -187,6 +192,31 @@ pub fn consensus_number<L, V>()
     consensus_needs_a_witness::<L, V>();
     witness_is_enough();
     number_is_the_consensus_number::<L, V>();
+}
+
+/// What `classify` tells of the number without reads holds of all protocols that never read an
+/// object. `L` and `V` are as in [`consensus_number`].
+///
+/// - `told`: the bounds that it tells of the type that the bytes spell do;
+/// - `line`: so do those whose text its line has. The numbers are below 2^64.
+pub fn number_without_reads<L, V>()
+    // promise: lines-tell-numbers-without-reads (IsClassificationOf, AreBoundsOf)
+    ensures told { (bytes : List ℕ) (t : TypeTable) (limit : Option ℕ) (is_asked : Bool)
+        (c : Classification) (bounds : NumberBounds) → table_in bytes ≡ Ok t
+        → IsClassificationOf t limit is_asked true c → c.without_read ≡ Some bounds
+        → AreBoundsOf L V t bounds }
+    // promise: lines-tell-numbers-without-reads (classification_line, AreSmall)
+    ensures line { (bytes : List ℕ) (t : TypeTable) (limit : Option ℕ) (is_asked : Bool)
+        (c : Classification) (found bounds : NumberBounds) → table_in bytes ≡ Ok t
+        → IsClassificationOf t limit is_asked true c → c.without_read ≡ Some found
+        → AreSmall found → AreSmall bounds
+        → classification_line c ≡ line_of t.name (words_of c.number)
+        (option_map words_of c.recoverable) (Some (bounds_text bounds))
+        → AreBoundsOf L V t bounds }
+{
+    spelled_tables();
+    found_bounds_hold::<L, V>();
+    bounds_are_told::<L, V>();
 }
 
 /// The recoverable number is the consensus number of processes that crash and come back.
