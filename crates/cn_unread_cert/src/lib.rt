@@ -1,0 +1,16 @@
+//! Certificates of numbers without reads, as values and as JSON texts.
+//!
+//! [`write_unread_certificate`] gives the one text of a certificate. A certificate that was read can
+//! say anything: `cn_unread_check` tells whether it is right.
+//!
+//! ```text
+//! println!(rt; "{}", write_unread_certificate(alloc, &certificate)?)?;
+//! ```
+#![tactic(auto)]
+
+mod certificate;
+mod part;
+mod write;
+
+pub use certificate::{LeastClaim, UnreadCertificate};
+pub use write::write_unread_certificate;

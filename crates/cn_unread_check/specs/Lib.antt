@@ -1,0 +1,2 @@
+pub mod FaultText
+pub mod Faults
