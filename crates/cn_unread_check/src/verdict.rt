@@ -1,5 +1,5 @@
 //! The check of a certificate of a number without reads.
-ghost use Rattle.std.specs.Prelude.{◌⊎◌, ◌↔◌, IfErr, IsTrue, OnOk};
+ghost use Rattle.std.specs.Prelude.{◌≡◌, ◌⊎◌, ◌↔◌, IfErr, IsTrue, OnOk};
 ghost use Rattle.cn_unread_cert.specs.Right.{AreInRange, IsRight};
 ghost use Rattle.cn_unread_check.specs.Faults.{IsFirstFault, IsUndecided};
 
@@ -9,6 +9,13 @@ use cn_merging::merge;
 use cn_table::Table;
 use cn_unread_cert::UnreadCertificate;
 use std::alloc::Global;
+
+/// Whether the certificate is for a type of the table's name.
+fn is_of_type(certificate: &UnreadCertificate, table: &Table) -> bool
+    ensures { IsTrue result ↔ (certificate.now.type_name ≡ table.now.name) }
+{
+    certificate.type_name.as_str() == table.name()
+}
 
 /// Whether the bounds are in range: every number and no upper bound; or a lower bound from 1 to 8,
 /// and an upper bound from it to 7 or none.
@@ -46,7 +53,7 @@ pub fn check_unread(
 {
     let (least, most) = (certificate.at_least, certificate.at_most);
     let merged = merge(alloc, table)?;
-    if certificate.type_name.as_str() != table.name() {
+    if !is_of_type(certificate, table) {
         return Err(UnreadCheckFault::OtherType);
     }
     if !are_in_range(least, most) {
