@@ -1,2 +1,4 @@
 pub mod Numbers
+pub mod States
 pub mod Steps
+pub mod WithReads

@@ -1,4 +1,5 @@
 pub mod Agreeing
 pub mod Bounds
 pub mod BoundsText
+pub mod Evidence
 pub mod Steps

@@ -1,11 +1,8 @@
 //! What is known of a number without reads.
-ghost use Rattle.std.specs.Prelude.{◌≡◌, ℕ, IfSome};
-ghost use Rattle.cn_search.specs.Numbers.{HasNumber};
-ghost use Rattle.cn_unread_number.specs.Bounds.{AreBounds, IsLeast, IsMost, as_bounds};
+ghost use Rattle.std.specs.Prelude.{◌≡◌};
+ghost use Rattle.cn_unread_number.specs.Bounds.{as_bounds, most_with_reads};
 
 use cn_search::ConsensusNumber;
-use cn_table::Table;
-use cn_unread::laws::defended_choices_are_witnesses;
 use std::fmt;
 
 /// What is known of the consensus number of a type whose objects are not read.
@@ -32,28 +29,12 @@ impl NumberBounds {
             ConsensusNumber::Between(least, most) => NumberBounds::Between(least, most),
         }
     }
-
-    /// The bounds of the number of a table that is at least the one number, and at most the other,
-    /// if there is one.
-    pub(crate) fn of(table: &Table, least: u8, most: Option<u8>) -> NumberBounds
-        requires least { IsLeast table.now least }
-        requires most { IfSome most (IsMost table.now) }
-        ensures { AreBounds table.now result }
-    {
-        match most {
-            Some(most) if least == most => NumberBounds::Exactly(least),
-            Some(most) if least < most => NumberBounds::Between(least, most),
-            _ => NumberBounds::AtLeast(least),
-        }
-    }
 }
 
 /// The greatest number that a type can have without reads, by its number with reads.
-pub(crate) fn most_with_reads(table: &Table, number: ConsensusNumber) -> Option<u8>
-    requires { HasNumber table.now number }
-    ensures { IfSome result (IsMost table.now) }
+pub(crate) fn most_with_reads(number: ConsensusNumber) -> Option<u8>
+    ensures { result ≡ most_with_reads number }
 {
-    defended_choices_are_witnesses();
     match number {
         ConsensusNumber::Finite(n) => Some(n),
         ConsensusNumber::Infinite => None,

@@ -9,6 +9,7 @@
 
 mod bounds;
 mod evidence;
+pub mod laws;
 mod number;
 mod search;
 mod telling;
@@ -18,4 +19,5 @@ mod tests;
 pub use bounds::NumberBounds;
 pub use evidence::{Evidence, LeastEvidence, MostEvidence};
 pub use number::{UnreadNumber, unread_number};
+pub use search::MOST_CHOICES;
 pub use telling::{Telling, telling_of};

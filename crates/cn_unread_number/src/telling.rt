@@ -1,8 +1,9 @@
 //! Types that need no reads: responses, or operations that change nothing, tell the state.
-ghost use Rattle.std.specs.Prelude.{◌<◌, ◌↔◌, IfSome, IsTrue, length};
+ghost use Rattle.std.specs.Prelude.{◌<◌, ◌↔◌, IfNone, IfSome, IsTrue, length};
 ghost use Rattle.cn_unread.specs.Telling.{LooksTellStates, ResponsesTellStates};
 ghost use Rattle.cn_unread_number.specs.Agreeing.{Agree, AgreesWithAll, IsSeen, TellsStates};
 ghost use Rattle.cn_unread_number.specs.Bounds.{NeedsNoReads};
+ghost use Rattle.cn_unread_number.specs.Evidence.{SomeLooksTellStates, TellsBy, TellsItsStates};
 ghost use Rattle.cn_views.specs.LookTables.{AreLooksOf};
 
 use cn_table::laws::{tables_are_closed, tables_are_valid};
@@ -78,7 +79,8 @@ fn is_seen(table: &Table, looks: &Looks, p: State) -> bool
 /// Whether the silent operations of the table tell its states apart.
 fn looks_tell_states(table: &Table, looks: &Looks) -> bool
     requires { AreLooksOf table.now looks.now }
-    ensures { IsTrue result ↔ LooksTellStates table.now looks.now.operations.items }
+    ensures all { IsTrue result ↔ LooksTellStates table.now looks.now.operations.items }
+    ensures some { IsTrue result ↔ SomeLooksTellStates table.now }
 {
     for p in 0..table.states() {
         if !is_seen(table, looks, State(p)) {
@@ -99,8 +101,12 @@ pub enum Telling {
 
 /// How the type tells its states, if it does: it needs no reads then.
 pub fn telling_of(table: &Table) -> Option<Telling>
+    // promise: telling-types (TellsBy)
+    ensures how { IfSome result (TellsBy table.now) }
     // promise: telling-types (NeedsNoReads)
-    ensures { IfSome result (λ how. NeedsNoReads table.now) }
+    ensures needs { IfSome result (λ how. NeedsNoReads table.now) }
+    // promise: telling-types (TellsItsStates)
+    ensures none { IfNone result (¬ TellsItsStates table.now) }
 {
     telling_types_need_no_reads();
     tables_are_closed();

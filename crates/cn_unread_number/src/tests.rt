@@ -1,6 +1,6 @@
 //! Numbers of worked types.
 
-use crate::{NumberBounds, unread_number};
+use crate::{Evidence, LeastEvidence, MostEvidence, NumberBounds, Telling, unread_number};
 use cn_table::read_table;
 use std::alloc::Global;
 use std::test::Fail;
@@ -94,22 +94,27 @@ next = [\"0\", \"1\", \"1\"]
 "
 }
 
-/// What is known of the number of the table that the text spells.
-fn bounds<T: Threads + Sync>(rt: &T, alloc: Global, text: &str) -> Result<NumberBounds, Fail> {
+/// What is known of the number of the table that the text spells, and why.
+fn evidence<T: Threads + Sync>(rt: &T, alloc: Global, text: &str) -> Result<Evidence, Fail> {
     let table = read_table(alloc, text.as_bytes())?;
-    Ok(unread_number(rt, alloc, &table)?.evidence.bounds)
+    Ok(unread_number(rt, alloc, &table)?.evidence)
 }
 
 #[test]
 fn numbers_of_worked_types(rt: HostRuntime) -> Result<(), Fail> {
     let alloc = rt.alloc();
-    let two = bounds(&rt, alloc, queue_of_one())?;
-    let all = bounds(&rt, alloc, sticky_bit())?;
-    let one = bounds(&rt, alloc, silent_bit())?;
-    let three = bounds(&rt, alloc, compare_and_swap())?;
-    assert!(rt; two == NumberBounds::Exactly(2));
-    assert!(rt; all == NumberBounds::Infinite);
-    assert!(rt; one == NumberBounds::Exactly(1));
-    assert!(rt; three == NumberBounds::Exactly(3));
+    let two = evidence(&rt, alloc, queue_of_one())?;
+    assert!(rt; two.bounds == NumberBounds::Exactly(2));
+    assert!(rt; matches!(two.least, LeastEvidence::Visible(_)));
+    assert!(rt; matches!(two.most, MostEvidence::Trap(_)));
+    let all = evidence(&rt, alloc, sticky_bit())?;
+    assert!(rt; all.bounds == NumberBounds::Infinite);
+    assert!(rt; matches!(all.least, LeastEvidence::Telling(Telling::Looks)));
+    let one = evidence(&rt, alloc, silent_bit())?;
+    assert!(rt; one.bounds == NumberBounds::Exactly(1));
+    let three = evidence(&rt, alloc, compare_and_swap())?;
+    assert!(rt; three.bounds == NumberBounds::Exactly(3));
+    assert!(rt; matches!(three.least, LeastEvidence::Further(_)));
+    assert!(rt; matches!(three.most, MostEvidence::Trap(_)));
     Ok(())
 }

@@ -21,7 +21,7 @@ module _ (t : TypeTable) (all : List ℕ) (are : AreSilentOperations t all) wher
   pub all_look : AreLooks t all
   all_look i l = (are.listed (slice_index all i)).0 (Contains-get_or all i 0 l)
 
-  some_alike : (looks : List ℕ) → AreLooks t looks → (p q : ℕ) → LookAlike t all p q → LookAlike t looks p q
+  pub some_alike : (looks : List ℕ) → AreLooks t looks → (p q : ℕ) → LookAlike t all p q → LookAlike t looks p q
   some_alike looks silent p q same i l =
       let o : ℕ = slice_index looks i in
       let place = (are.listed o).1 (silent i l) in

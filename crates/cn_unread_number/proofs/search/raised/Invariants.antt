@@ -1,8 +1,8 @@
-use Rattle.std.proofs.Common.{◌≡◌, IfSome}
-use Rattle.cn_unread_number.specs.Bounds.{IsLeast, IsMost}
+use Rattle.std.proofs.Common.{◌≡◌}
+use Rattle.cn_unread_number.specs.Steps.{IsShown}
 use Rattle.cn_unread_number.proofs.search.raised.Given as goal
 
--- both bounds hold, and the next step is for one process more
+-- each bound has its evidence, and the next step is for one process more
 abbrev pub invariant-loop-least : goal.invariant-loop-least
 invariant-loop-least l =
-    (l.all.least ≡ l.least) × IsLeast l.table l.all.least × IfSome l.all.most (IsMost l.table)
+    (l.all.least ≡ l.least) × IsShown l.table l.all × (l.all.most ≡ l.fn.shown.most)
