@@ -1,3 +1,4 @@
 pub mod Certificate
 pub mod UnreadText
 pub mod Right
+pub mod Kept

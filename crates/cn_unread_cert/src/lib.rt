@@ -9,8 +9,10 @@
 #![tactic(auto)]
 
 mod certificate;
+mod maker;
 mod part;
 mod write;
 
 pub use certificate::{LeastClaim, UnreadCertificate};
+pub use maker::unread_certificate;
 pub use write::write_unread_certificate;
