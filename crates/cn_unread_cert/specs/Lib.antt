@@ -1,4 +1,5 @@
 pub mod Certificate
-pub mod UnreadText
-pub mod Right
 pub mod Kept
+pub mod Kinds
+pub mod Right
+pub mod UnreadText

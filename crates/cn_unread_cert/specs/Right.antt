@@ -1,6 +1,6 @@
 -- Certificates that are right: their bounds are in range, and their evidence shows them. New here.
 use Rattle.std.specs.Prelude.{◌≡◌, ℕ, ◌+◌, ◌≤◌, ◌<◌, List, Option, Some, None}
-use Rattle.cn_table.specs.TypeTable.{TypeTable}
+use Rattle.cn_table.specs.TypeTable.{IsTypeTable, TypeTable}
 use Rattle.cn_choice.specs.Canonical.{raw_choice_of}
 use Rattle.cn_choice.specs.RawChoices.{IsRawChoice}
 use Rattle.cn_choice.specs.declared.limits.TheConstants.{MOST_PROCESSES}
@@ -59,7 +59,7 @@ pub record IsRightFor (name : List ℕ) (u : TypeTable) (c : UnreadCertificate) 
 
 -- u is the type with all its states merged that no operations tell apart
 abbrev pub IsMerging : TypeTable → TypeTable → Type 0
-IsMerging t u = (class_of : List ℕ) × IsWhollyMerged t u class_of
+IsMerging t u = IsTypeTable u × ((class_of : List ℕ) × IsWhollyMerged t u class_of)
 
 -- the certificate is right: its evidence, which speaks of the type with its states merged, shows its
 -- bounds

@@ -9,6 +9,8 @@
 #![tactic(auto)]
 
 mod certificate;
+mod kinds;
+mod limits;
 mod maker;
 mod part;
 mod write;

@@ -11,6 +11,7 @@ use cn_choice::MOST_PROCESSES;
 use cn_game::{Trap, find_trap};
 use cn_signs::find_signs;
 use cn_table::Table;
+use cn_table::laws::tables_are_valid;
 use cn_unread_number::{
     Evidence, LeastEvidence, MOST_CHOICES, MostEvidence, NumberBounds, UnreadNumber, unread_number,
 };
@@ -224,6 +225,7 @@ impl UnreadCertificate {
             (most_of number.evidence.bounds) c.at_least c.at_most) }
     {
         let UnreadNumber { merged, evidence } = number;
+        tables_are_valid(&merged.table);
         let Evidence { bounds, least, most } = evidence;
         let type_name = String::from_str(alloc, table.name())?;
         let lower = lower_of(&merged.table, least_of(bounds), least);

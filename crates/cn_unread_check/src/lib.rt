@@ -14,6 +14,7 @@
 
 mod evidence;
 mod fault;
+pub mod laws;
 mod verdict;
 
 pub use fault::UnreadCheckFault;

@@ -1,12 +1,16 @@
 //! The check of a certificate of a number without reads.
 ghost use Rattle.std.specs.Prelude.{◌≡◌, ◌⊎◌, ◌↔◌, IfErr, IsTrue, OnOk};
 ghost use Rattle.cn_unread_cert.specs.Right.{AreInRange, IsRight};
+ghost use Rattle.cn_unread_check.specs.Bounds.{bounds_of};
 ghost use Rattle.cn_unread_check.specs.Faults.{IsFirstFault, IsUndecided};
+ghost use Rattle.cn_unread_number.specs.Bounds.{HasUnreadNumber};
 
 use crate::evidence::{shows_at_least, shows_at_most};
 use crate::fault::UnreadCheckFault;
+use crate::laws::accepted_bounds_hold;
 use cn_merging::merge;
 use cn_table::Table;
+use cn_table::laws::tables_are_valid;
 use cn_unread_cert::UnreadCertificate;
 use std::alloc::Global;
 
@@ -47,12 +51,17 @@ pub fn check_unread(
 ) -> Result<(), UnreadCheckFault>
     // promise: check-without-reads (IsRight)
     ensures accepted { OnOk result (IsRight table.now certificate.now) }
+    // promise: check-without-reads (HasUnreadNumber)
+    ensures bounds { OnOk result (HasUnreadNumber table.now
+        (bounds_of certificate.now.at_least certificate.now.at_most)) }
     // promise: check-without-reads (IsFirstFault)
     ensures refused { IfErr result (λ e. IsUndecided certificate.now e
         ⊎ IsFirstFault table.now certificate.now e) }
 {
     let (least, most) = (certificate.at_least, certificate.at_most);
+    accepted_bounds_hold();
     let merged = merge(alloc, table)?;
+    tables_are_valid(&merged.table);
     if !is_of_type(certificate, table) {
         return Err(UnreadCheckFault::OtherType);
     }
