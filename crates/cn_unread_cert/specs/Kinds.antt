@@ -1,14 +1,24 @@
 -- The kinds of JSON values in a certificate of a number without reads, whose numbers and lists are
 -- within limits.
-use Rattle.std.specs.Prelude.{ℕ, ◌==◌, List, [], ◌∷◌, length, Bool, true, false, ◌&&◌, ◌||◌, nat_le, bytes_eq}
+use Rattle.std.specs.Prelude.{ℕ, ◌-◌, ◌^◌, ◌==◌, List, [], ◌∷◌, length, Bool, true, false, ◌&&◌, ◌||◌, nat_le, bytes_eq}
 use Rattle.std.specs.Prelude.{Option, Some, None, codes, is_some}
 use Rattle.std.specs.Option.{option_map_or}
 use Rattle.std.specs.List.{list_all}
-use Rattle.serde_json.specs.Data.{Data, Members, member, no_members}
-use Rattle.serde_json.specs.Find.{as_null, as_object, as_str, get_member}
+use Rattle.serde_json.specs.Data.{Data}
+use Rattle.serde_json.specs.Find.{as_null, as_object, as_str, get}
+use Rattle.cn_table.specs.Names.{is_name}
+use Rattle.cn_choice.specs.declared.limits.TheConstants.{MOST_PROCESSES}
 use Rattle.cn_cert.specs.Document.{members_len}
 use Rattle.cn_cert.specs.Values.{items_of, natural_of}
+use Rattle.cn_unread_cert.specs.UnreadText.{unread_version}
 use Rattle.cn_unread_cert.specs.declared.limits.Limits.{Limits}
+
+-- the limits of what a text is read as, and those of a certificate
+abbrev pub any_limits : Limits
+any_limits = record { number = 2 ^ 64 - 1; list = 2 ^ 64 - 1 }
+
+abbrev pub byte_limits : Limits
+byte_limits = record { number = 255; list = MOST_PROCESSES }
 
 -- an unsigned integer up to the limit
 abbrev pub is_number : Limits → Data → Bool
@@ -96,34 +106,48 @@ is_turn limits d = is_row (are_turn_parts limits) d
 abbrev pub is_null_or : (Data → Bool) → Data → Bool
 is_null_or kind d = is_some (as_null d) || kind d
 
--- the evidence for a lower bound, at its key
-abbrev pub is_evidence : Limits → List ℕ → Data → Bool
-is_evidence limits key d =
-    (bytes_eq key (codes "visible") && is_row (are_choice_parts limits) d)
-    || ((bytes_eq key (codes "further") && is_row (are_further_parts limits) d)
-    || (bytes_eq key (codes "signs") && is_row (are_sign_parts limits) d))
+-- an object with so many keys
+abbrev pub has_keys : ℕ → Data → Bool
+has_keys count d = option_map_or (λ ms. members_len ms == count) (as_object d) false
+
+-- a value of a kind, at a key
+abbrev pub has_at : List ℕ → (Data → Bool) → Data → Bool
+has_at key kind d = option_map_or kind (get key d) false
 
 -- an object with one key, for evidence
-abbrev pub are_evidence : Limits → Members → Bool
-are_evidence limits (member key d no_members) = is_evidence limits key d
-are_evidence limits _ = false
+abbrev pub is_evidence : Limits → Data → Bool
+is_evidence limits d = has_keys 1 d && (has_at (codes "visible") (is_row (are_choice_parts limits)) d
+    || (has_at (codes "further") (is_row (are_further_parts limits)) d
+    || has_at (codes "signs") (is_row (are_sign_parts limits)) d))
 
 abbrev pub is_least : Limits → Data → Bool
-is_least limits d = is_null_or (λ e. option_map_or (are_evidence limits) (as_object e) false) d
+is_least limits d = is_null_or (is_evidence limits) d
 
 abbrev pub is_most : Limits → Data → Bool
 is_most limits d = is_null_or (is_array (is_turn limits)) d
 
--- a value of a kind, at a key
-abbrev pub has_at : List ℕ → (Data → Bool) → Members → Bool
-has_at key kind ms = option_map_or kind (get_member key ms) false
+-- a text that passes the test
+abbrev pub is_text : (List ℕ → Bool) → Data → Bool
+is_text test d = option_map_or test (as_str d) false
 
--- the six keys and no other, each with a value of its kind
-abbrev pub are_parts : Limits → (List ℕ → Bool) → Members → Bool
-are_parts limits is_known ms = (members_len ms == 6)
-    && (has_at (codes "at_least") (is_null_or (is_number limits)) ms
-    && (has_at (codes "at_most") (is_null_or (is_number limits)) ms
-    && (has_at (codes "least") (is_least limits) ms
-    && (has_at (codes "most") (is_most limits) ms
-    && (has_at (codes "type") (λ d. option_map_or is_known (as_str d) false) ms
-    && has_at (codes "version") (λ d. is_some (natural_of d)) ms)))))
+-- an object with the six keys and no other, each with a value of its kind
+abbrev pub is_certificate : Limits → (List ℕ → Bool) → Data → Bool
+is_certificate limits is_known d = has_keys 6 d
+    && (has_at (codes "at_least") (is_null_or (is_number limits)) d
+    && (has_at (codes "at_most") (is_null_or (is_number limits)) d
+    && (has_at (codes "least") (is_least limits) d
+    && (has_at (codes "most") (is_most limits) d
+    && (has_at (codes "type") (is_text is_known) d
+    && has_at (codes "version") (is_number any_limits) d)))))
+
+-- the value has the shape of a certificate
+abbrev pub has_shape : Data → Bool
+has_shape d = is_certificate any_limits (λ text. true) d
+
+-- its version is that of certificates of numbers without reads
+abbrev pub has_version : Data → Bool
+has_version d = has_at (codes "version") (is_this unread_version) d
+
+-- its numbers, its lists and its name are those of a certificate
+abbrev pub is_in_range : Data → Bool
+is_in_range d = is_certificate byte_limits is_name d

@@ -1,9 +1,10 @@
 //! Whether JSON values have the kinds of the parts of a certificate.
-ghost use Rattle.std.specs.Prelude.{◌≡◌, map, option_map};
+ghost use Rattle.std.specs.Prelude.{◌≡◌, IfSome, map, option_map};
 ghost use Rattle.std.specs.List.{list_all};
 ghost use Rattle.serde_json.specs.View.{view};
 ghost use Rattle.cn_cert.specs.Values.{items_of};
 ghost use Rattle.cn_unread_cert.specs.Kinds.{are_choice_parts, are_further_parts, are_sign_parts, is_array, is_list, is_row, is_run, is_side};
+ghost use Rattle.cn_unread_cert.specs.UnreadText.{list_data};
 
 use crate::limits::Limits;
 use cn_further::FollowUp;
@@ -26,7 +27,9 @@ pub(crate) trait Kind {
 
 /// The items of an array.
 pub(crate) fn items(value: &Value) -> Option<&[Value]>
-    ensures { option_map (λ items. map view items.now) result ≡ items_of (view value.now) }
+    ensures items { option_map (λ items. map view items.now) result
+        ≡ items_of (view value.now) }
+    ensures array { IfSome result (λ items. view value.now ≡ list_data (map view items.now)) }
 {
     match value.as_array() {
         Some(list) => Some(list.as_slice()),

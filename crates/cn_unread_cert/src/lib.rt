@@ -9,12 +9,17 @@
 #![tactic(auto)]
 
 mod certificate;
+mod fault;
 mod kinds;
 mod limits;
 mod maker;
 mod part;
+mod read;
+mod reading;
+mod shape;
 mod write;
 
 pub use certificate::{LeastClaim, UnreadCertificate};
+pub use fault::UnreadCertFault;
 pub use maker::unread_certificate;
 pub use write::write_unread_certificate;

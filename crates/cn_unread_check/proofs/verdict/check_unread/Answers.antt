@@ -9,7 +9,7 @@ returns-then-not-are_in_range-clause-refused c =
     let merged = c.in_ok-merged in
     let named = c.is_of_type.ensures.0 c.if-not-is_of_type.false in
     let range : ¬ AreInRange c.args.certificate.now.at_least c.args.certificate.now.at_most = search rules in
-    inr (bad_number c.args.table.now merged.merged.table (c.tables_are_valid.ensures, (merged.merged.class_of.items, merged.ensures.merged)) c.args.certificate.now named range)
+    inr (bad_number c.args.table.now merged.merged.table (c.tables_are_valid.ensures.table, (merged.merged.class_of.items, merged.ensures.merged)) c.args.certificate.now named range)
 
 pub returns-in-Some-false-clause-refused : goal.returns-in-Some-false-clause-refused
 returns-in-Some-false-clause-refused c =
@@ -17,7 +17,7 @@ returns-in-Some-false-clause-refused c =
     let named = c.is_of_type.ensures.0 c.if-not-is_of_type.false in
     let range : AreInRange c.args.certificate.now.at_least c.args.certificate.now.at_most = search rules in
     let least : ¬ ShowsAtLeast merged.merged.table c.args.certificate.now.least c.args.certificate.now.at_least = search rules in
-    inr (no_least c.args.table.now merged.merged.table (c.tables_are_valid.ensures, (merged.merged.class_of.items, merged.ensures.merged)) c.args.certificate.now named range least)
+    inr (no_least c.args.table.now merged.merged.table (c.tables_are_valid.ensures.table, (merged.merged.class_of.items, merged.ensures.merged)) c.args.certificate.now named range least)
 
 pub returns-then-not-shows_at_most-clause-refused :
     goal.returns-then-not-shows_at_most-clause-refused
@@ -27,13 +27,13 @@ returns-then-not-shows_at_most-clause-refused c =
     let range : AreInRange c.args.certificate.now.at_least c.args.certificate.now.at_most = search rules in
     let least : ShowsAtLeast merged.merged.table c.args.certificate.now.least c.args.certificate.now.at_least = search rules in
     let most : ¬ ShowsAtMost merged.merged.table c.args.certificate.now.most c.args.certificate.now.at_most = search rules in
-    inr (no_most c.args.table.now merged.merged.table (c.tables_are_valid.ensures, (merged.merged.class_of.items, merged.ensures.merged)) c.args.certificate.now named range least most)
+    inr (no_most c.args.table.now merged.merged.table (c.tables_are_valid.ensures.table, (merged.merged.class_of.items, merged.ensures.merged)) c.args.certificate.now named range least most)
 
 pub returns-then-not-is_of_type-clause-refused : goal.returns-then-not-is_of_type-clause-refused
 returns-then-not-is_of_type-clause-refused c =
     let merged = c.in_ok-merged in
     let named : c.args.certificate.now.type_name ≢ c.args.table.now.name = search rules in
-    inr (other_type c.args.table.now merged.merged.table (c.tables_are_valid.ensures, (merged.merged.class_of.items, merged.ensures.merged)) c.args.certificate.now named)
+    inr (other_type c.args.table.now merged.merged.table (c.tables_are_valid.ensures.table, (merged.merged.class_of.items, merged.ensures.merged)) c.args.certificate.now named)
 
 pub returns-clause-bounds : goal.returns-clause-bounds
 returns-clause-bounds c =
