@@ -1,5 +1,5 @@
 -- Evidence for a number is a claim of a certificate.
-use Rattle.std.proofs.Common.{◌≡◌, ℕ, ◌≤◌, Option, Some, None, arith, subst}
+use Rattle.std.proofs.Common.{◌≡◌, ℕ, Option, Some, None, arith, subst}
 use Rattle.cn_table.specs.TypeTable.{TypeTable}
 use Rattle.cn_choice.specs.declared.limits.TheConstants.{MOST_PROCESSES}
 use Rattle.cn_unread_number.specs.Evidence.{ShowsLeast}

@@ -1,6 +1,6 @@
 -- No number of a certificate is a float.
-use Rattle.std.proofs.Common.{◌≡◌, ℕ, List, [], ◌∷◌, Bool, false, ◌||◌, Option, Some, None, map, refl, codes}
-use Rattle.serde_json.specs.Data.{Data, Items}
+use Rattle.std.proofs.Common.{◌≡◌, ℕ, List, [], ◌∷◌, Bool, false, ◌||◌, Option, Some, None, map, refl}
+use Rattle.serde_json.specs.Data.{Data}
 use Rattle.serde_json.specs.View.{items_of}
 use Rattle.serde_json.specs.Written.{has_float, items_have_float}
 use Rattle.cn_cert.specs.CertificateText.{number_data, number_or_null, numbers_data}
@@ -9,7 +9,7 @@ use Rattle.cn_game.specs.declared.board.Standing.TheVariants as standing
 use Rattle.cn_game.specs.declared.trap.Trap.{Trap}
 use Rattle.cn_game.specs.declared.trap.Turn.{Turn}
 use Rattle.cn_unread_cert.specs.Certificate.{UnreadCertificate}
-use Rattle.cn_unread_cert.specs.UnreadText.{each_data, further_data, least_data, most_data, standing_data}
+use Rattle.cn_unread_cert.specs.UnreadText.{least_data, most_data, standing_data}
 use Rattle.cn_unread_cert.specs.UnreadText.{follow_up_data, turn_data, unread_data}
 use Rattle.cn_unread_cert.specs.declared.certificate.LeastClaim.{LeastClaim}
 use Rattle.cn_unread_cert.specs.declared.certificate.LeastClaim.TheVariants as least

@@ -35,17 +35,13 @@ pub record Spells (d : Data) (c : UnreadCertificate) : Type 0 where
   pub type_name : get (codes "type") d ≡ Some (string c.type_name)
   pub version : get (codes "version") d ≡ Some (number_data unread_version)
 
--- the bytes spell a JSON value that passes the test
-abbrev pub in_document : (Data → Bool) → List ℕ → Bool
-in_document test bytes = option_map_or test (document_of bytes) false
-
--- whether the bytes have a fault
-abbrev pub holds : List ℕ → UnreadCertFault → Bool
-holds bytes NotJson = is_none (document_of bytes)
-holds bytes WrongShape = in_document (λ d. not (has_shape d)) bytes
-holds bytes Version = in_document (λ d. not (has_version d)) bytes
-holds bytes Range = in_document (λ d. not (is_in_range d)) bytes
-holds bytes OutOfMemory = false
+-- whether the JSON value that bytes spell, if there is one, has a fault
+abbrev pub holds : Option Data → UnreadCertFault → Bool
+holds there NotJson = is_none there
+holds there WrongShape = option_map_or (λ d. not (has_shape d)) there false
+holds there Version = option_map_or (λ d. not (has_version d)) there false
+holds there Range = option_map_or (λ d. not (is_in_range d)) there false
+holds there OutOfMemory = false
 
 -- the faults in the order of their numbers
 abbrev pub faults : List UnreadCertFault
@@ -53,7 +49,7 @@ faults = NotJson ∷ WrongShape ∷ Version ∷ Range ∷ []
 
 -- the first fault that the bytes have
 abbrev pub fault_of : List ℕ → Option UnreadCertFault
-fault_of bytes = find (holds bytes) faults
+fault_of bytes = find (holds (document_of bytes)) faults
 
 -- the bytes spell the certificate
 abbrev pub AreOf : List ℕ → UnreadCertificate → Type 0

@@ -1,6 +1,6 @@
 -- The JSON value of a certificate of a number without reads, and its one text.
 use Rattle.std.specs.Prelude.{ℕ, List, [], ◌∷◌, Option, Some, None, map, codes}
-use Rattle.serde_json.specs.Data.{Data, null, string, array, object, Members, member, no_members}
+use Rattle.serde_json.specs.Data.{Data, null, string, array, object, member, no_members}
 use Rattle.serde_json.specs.View.{items_of}
 use Rattle.serde_json.specs.Written.{compact_text}
 use Rattle.cn_choice.specs.TeamNames.{team_name}

@@ -22,4 +22,5 @@ mod write;
 pub use certificate::{LeastClaim, UnreadCertificate};
 pub use fault::UnreadCertFault;
 pub use maker::unread_certificate;
+pub use read::read_unread_certificate;
 pub use write::write_unread_certificate;

@@ -226,7 +226,11 @@ impl UnreadCertificate {
     {
         let UnreadNumber { merged, evidence } = number;
         tables_are_valid(&merged.table);
-        let Evidence { bounds, least, most } = evidence;
+        let Evidence {
+            bounds,
+            least,
+            most,
+        } = evidence;
         let type_name = String::from_str(alloc, table.name())?;
         let lower = lower_of(&merged.table, least_of(bounds), least);
         let at_least = lower.at_least;

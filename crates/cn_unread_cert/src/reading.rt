@@ -205,9 +205,12 @@ pub(crate) fn read_further(alloc: Global, value: &Value) -> Result<Option<Furthe
         return Ok(None);
     };
     let follow_ups = read_array(alloc, follow_ups)?;
-    let (Some(state), Some(a), Some(b), Some(follow_ups)) =
-        (u8::read(state), read_list(a), read_list(b), follow_ups)
-    else {
+    let (Some(state), Some(a), Some(b), Some(follow_ups)) = (
+        u8::read(state),
+        read_list(a),
+        read_list(b),
+        follow_ups,
+    ) else {
         return Ok(None);
     };
     let state = State(state);
