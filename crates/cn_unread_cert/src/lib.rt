@@ -17,6 +17,8 @@ mod part;
 mod read;
 mod reading;
 mod shape;
+#[cfg(test)]
+mod tests;
 mod write;
 
 pub use certificate::{LeastClaim, UnreadCertificate};

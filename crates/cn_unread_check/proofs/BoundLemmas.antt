@@ -1,8 +1,7 @@
 -- What a certificate shows is evidence for a number.
-use Rattle.std.proofs.Common.{◌≡◌, ◌==◌, ℕ, ◌+◌, ◌≤◌, ◌<◌, Bool, true, false, Option, Some, None, arith, refl, cond, nat_eq}
+use Rattle.std.proofs.Common.{◌≡◌, ◌==◌, ℕ, ◌+◌, ◌≤◌, Bool, true, false, Option, Some, None, arith, refl, cond}
 use Rattle.std.proofs.lemmas.Bool.{eqb-false, eqb-true}
 use Rattle.cn_table.specs.TypeTable.{IsTypeTable, TypeTable}
-use Rattle.cn_choice.specs.declared.limits.TheConstants.{MOST_PROCESSES}
 use Rattle.cn_game.specs.TrapLists.{IsTrapList}
 use Rattle.cn_game.specs.declared.trap.Trap.{Trap}
 use Rattle.cn_merging.specs.Merged.{class_in}
@@ -72,8 +71,7 @@ pub bounds_hold : ShownBoundsHold → (t : TypeTable) (c : UnreadCertificate) �
 bounds_hold law t c right =
     let u = right.0 in
     let merging = right.1 in
-    let shown = right.2 in
-    (
+    let shown = right.2 in (
       class_in merging.1.0,
       u,
       merging.0,

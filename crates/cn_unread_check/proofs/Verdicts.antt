@@ -1,5 +1,5 @@
 -- The first faults of certificates.
-use Rattle.std.proofs.Common.{◌≡◌, ◌≢◌, ℕ, ◌<◌, ◌≤◌, List, arith}
+use Rattle.std.proofs.Common.{◌≡◌, ◌≢◌, ℕ, ◌<◌, ◌≤◌, arith}
 use Rattle.cn_table.specs.TypeTable.{TypeTable}
 use Rattle.cn_unread_cert.specs.Certificate.{UnreadCertificate}
 use Rattle.cn_unread_cert.specs.Right.{AreInRange, IsMerging, ShowsAtLeast, ShowsAtMost}
@@ -23,17 +23,32 @@ module _ (t u : TypeTable) (merging : IsMerging t u) (c : UnreadCertificate) whe
   sooner n few type range least OutOfMemory less = λ has. has
 
   pub other_type : (c.type_name ≢ t.name) → IsFirstFault t c OtherType
-  other_type has = (u, merging, has, sooner 1 (omega arith) (λ less. absurd (omega (arith, less)))
-      (λ less. absurd (omega (arith, less))) (λ less. absurd (omega (arith, less))))
+  other_type has = (
+    u,
+    merging,
+    has,
+    sooner 1 (omega arith) (λ less. absurd (omega (arith, less)))
+        (λ less. absurd (omega (arith, less))) (λ less. absurd (omega (arith, less))),
+  )
 
   pub bad_number : c.type_name ≡ t.name → ¬ AreInRange c.at_least c.at_most → IsFirstFault t c BadNumber
-  bad_number type has = (u, merging, has, sooner 2 (omega arith) (λ _. type)
-      (λ less. absurd (omega (arith, less))) (λ less. absurd (omega (arith, less))))
+  bad_number type has = (
+    u,
+    merging,
+    has,
+    sooner 2 (omega arith) (λ _. type)
+        (λ less. absurd (omega (arith, less))) (λ less. absurd (omega (arith, less))),
+  )
 
   pub no_least : c.type_name ≡ t.name → AreInRange c.at_least c.at_most
       → ¬ ShowsAtLeast u c.least c.at_least → IsFirstFault t c Least
-  no_least type range has = (u, merging, has, sooner 3 (omega arith) (λ _. type) (λ _. range)
-      (λ less. absurd (omega (arith, less))))
+  no_least type range has = (
+    u,
+    merging,
+    has,
+    sooner 3 (omega arith) (λ _. type) (λ _. range)
+        (λ less. absurd (omega (arith, less))),
+  )
 
   pub no_most : c.type_name ≡ t.name → AreInRange c.at_least c.at_most
       → ShowsAtLeast u c.least c.at_least → ¬ ShowsAtMost u c.most c.at_most → IsFirstFault t c Most

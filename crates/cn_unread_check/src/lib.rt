@@ -15,6 +15,8 @@
 mod evidence;
 mod fault;
 pub mod laws;
+#[cfg(test)]
+mod tests;
 mod verdict;
 
 pub use fault::UnreadCheckFault;

@@ -1,6 +1,6 @@
 use Rattle.std.proofs.Common.{◌≡◌, true, sym, ◌∙◌}
 use Rattle.serde_json.specs.View.{view}
-use Rattle.cn_unread_cert.proofs.Faults.{version_back, version_number}
+use Rattle.cn_unread_cert.proofs.Versions.{version_back, version_number}
 use Rattle.cn_unread_cert.proofs.Parts.{holds_so, told_so, whole}
 use Rattle.cn_unread_cert.specs.Kinds.{has_keys}
 use Rattle.cn_unread_cert.proofs.read.read_value.Goals as goal

@@ -1,4 +1,4 @@
-use Rattle.std.proofs.Common.{rules, ◌≡◌, ◌≢◌, inr}
+use Rattle.std.proofs.Common.{rules, ◌≢◌, inr}
 use Rattle.cn_unread_cert.specs.Right.{AreInRange, IsRight, ShowsAtLeast, ShowsAtMost}
 use Rattle.cn_unread_check.proofs.Verdicts.{bad_number, no_least, no_most, other_type}
 use Rattle.cn_unread_check.proofs.verdict.check_unread.Goals as goal

@@ -1,4 +1,4 @@
--- The first faults of bytes, by the JSON value that they spell.
+-- The version of a JSON value, by its test.
 use Rattle.std.proofs.Common.{◌≡◌, ◌∙◌, ℕ, List, Bool, true, false, not, Option, Some, None, ap, sym, refl, codes, true≢false, cond, nat_eq}
 use Rattle.std.specs.Prelude.{find}
 use Rattle.std.specs.Option.{option_map_or}
@@ -13,39 +13,6 @@ use Rattle.cn_unread_cert.specs.Kinds.{any_limits, has_at, has_shape, has_versio
 use Rattle.cn_unread_cert.specs.Reading.{fault_of, faults, holds}
 use Rattle.cn_unread_cert.specs.declared.fault.UnreadCertFault.{UnreadCertFault}
 use Rattle.cn_unread_cert.specs.declared.fault.UnreadCertFault.TheVariants.{NotJson, Range, Version, WrongShape}
-
--- the fault that is found of these tests: whether the value is there, and what it passes
-found : Bool → Bool → Bool → Option UnreadCertFault
-found shape version range =
-    cond (not shape) (Some WrongShape) (cond (not version) (Some Version) (cond (not range) (Some Range) None))
-
-module _ (bytes : List ℕ) (d : Data) (there : document_of bytes ≡ Some d) where
-  by_tests : fault_of bytes ≡ found (has_shape d) (has_version d) (is_in_range d)
-  unfolding found
-  by_tests = ap (λ o. find (holds o) faults) there
-
-  pub shape_fault : has_shape d ≡ false → fault_of bytes ≡ Some WrongShape
-  unfolding found
-  shape_fault shape = by_tests ∙ ap (λ b. found b (has_version d) (is_in_range d)) shape
-
-  pub version_fault : has_shape d ≡ true → has_version d ≡ false → fault_of bytes ≡ Some Version
-  unfolding found
-  version_fault shape version = by_tests ∙ ap (λ b. found b (has_version d) (is_in_range d)) shape
-      ∙ ap (λ b. found true b (is_in_range d)) version
-
-  pub range_fault : has_shape d ≡ true → has_version d ≡ true → is_in_range d ≡ false
-      → fault_of bytes ≡ Some Range
-  unfolding found
-  range_fault shape version range = by_tests ∙ ap (λ b. found b (has_version d) (is_in_range d)) shape
-      ∙ ap (λ b. found true b (is_in_range d)) version ∙ ap (found true true) range
-
-  pub no_fault : has_shape d ≡ true → has_version d ≡ true → is_in_range d ≡ true → fault_of bytes ≡ None
-  unfolding found
-  no_fault shape version range = by_tests ∙ ap (λ b. found b (has_version d) (is_in_range d)) shape
-      ∙ ap (λ b. found true b (is_in_range d)) version ∙ ap (found true true) range
-
-pub not_json : (bytes : List ℕ) → document_of bytes ≡ None → fault_of bytes ≡ Some NotJson
-not_json bytes there = ap (λ o. find (holds o) faults) there
 
 this_back : (d : Data) (n : ℕ) → is_this n d ≡ true → d ≡ number_data n
 this_back d n h = by_natural (natural_of d) refl h
