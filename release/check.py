@@ -1,9 +1,10 @@
 #!/usr/bin/env python3
 """usage: check.py TABLE CERTIFICATE | TABLE --infinite STATE ONE MANY
-Checks a certificate for the consensus number of a type, or that it is infinite. Prints `ok`, with status 0, or what is wrong, with
-status 1. Needs Python 3.11 alone. Follows docs/FORMATS.md and docs/DEFINITIONS.md, and shares no line with the program."""
-import itertools, json, pathlib, re, sys, tomllib
+Checks a certificate for the consensus number of a type, with reads or without, or that it is infinite. Prints `ok`, with status 0, or what
+is wrong, with status 1. Needs Python 3.11 alone. Follows docs/FORMATS.md and docs/DEFINITIONS.md, and shares no line with the program."""
+import collections, functools, itertools, json, pathlib, re, sys, tomllib
 MOST_STATES, MOST_RESPONSES, MOST_OPERATIONS = 16, 16, 8
+flat = lambda it: [leaf for inner in it for leaf in flat(inner)] if type(it) is list else [it]
 def demand(holds, wrong):
     if not holds: raise ValueError(wrong)
 
@@ -29,11 +30,11 @@ class Type:  # states, operations, processes and entries have numbers, from 0
         for p in order:
             responses[p], state = self.act[operations[p]][state]
         return responses, state
-    def is_witness(self, start, a, b):  # by its response and the last state, each process tells which team was first
+    def is_witness(self, start, a, b, look=lambda state: state):  # by its response and the last state, each process tells which team was first
         seen, n = {True: set(), False: set()}, len(a + b)  # in orders that begin in team A, and in others
         for order in itertools.chain(*(itertools.permutations(range(n), size + 1) for size in range(n))):
             responses, state = self.run(start, a + b, order)
-            seen[order[0] < len(a)] |= {(p, responses[p], state) for p in order}
+            seen[order[0] < len(a)] |= {(p, responses[p], look(state)) for p in order}
         return not seen[True] & seen[False]
     def is_collision(self, start, a, b, p, alpha, beta):  # A begins alpha, B begins beta, and p sees the same in both
         orders = all(set(it) <= set(range(len(a + b))) and len(set(it)) == len(it) and p in it for it in (alpha, beta))
@@ -46,6 +47,7 @@ class Type:  # states, operations, processes and entries have numbers, from 0
             teams = (itertools.combinations_with_replacement(some, it) for it in (size, n - size))
             yield from ([start, [*a], [*b]] for a, b in itertools.product(*teams) if size < n - size or a <= b)
     def check(self, certificate):  # a witness for the number; none for one process more, and so none for still more
+        if certificate["version"] == 4: return Unread(self).check(certificate)
         demand([*sorted(certificate)] == "collisions limit number type version witness".split(), "another key")
         entries, limit, number, name, version, witness = (certificate[key] for key in sorted(certificate))
         demand(name == self.name and type(entries) is list, "the type, or the collisions")
@@ -66,6 +68,64 @@ class Type:  # states, operations, processes and entries have numbers, from 0
         last = lambda orders: {self.run(start, it, range(len(it)))[1] for it in orders}
         others = times + [[many, *some, one, *more] for some in times for more in times]
         demand(one != many and not last([one, *more] for more in times) & last(others), "a state is left both ways")
+
+class Unread(Type):  # a type that is not read, with one state for all that no operations tell apart, in the order of the first ones
+    def __init__(self, kind):
+        state_of, least = [0] * len(kind.states), 0
+        while len(set(state_of)) > least:  # states that an operation tells apart go to two classes
+            least, new, answers = len(set(state_of)), {}, [[(r, state_of[s]) for r, s in row] for row in kind.act]
+            state_of = [new.setdefault(row, len(new)) for row in zip(state_of, *answers)]
+        self.name, self.states = kind.name, [state_of.index(it) for it in range(least)]
+        self.act = [[(row[it][0], state_of[row[it][1]]) for it in self.states] for row in kind.act]
+    def visible(self, n, start, a, b):  # operations that change nothing tell of the last state what they can
+        looks = [row for row in self.act if all(last == state for state, (_, last) in enumerate(row))]
+        return a and b and len(a + b) == n and self.is_witness(start, a, b, lambda state: tuple(row[state][0] for row in looks))
+    def further(self, n, start, a, b, then):  # one further operation, by its response, shows each process which team was first
+        next_of = {(o,): o for o in a + b} | {(o, response): more for o, response, more in reversed(then)}  # the first one counts
+        each, scenes = [*enumerate(a + b)], (new := {(start, ((),) * n, None)})  # what each process has got, and whether team A was first
+        while new := {(last, (*got[:p], (*got[p], response), *got[p + 1:]), p < len(a) if was_a is None else was_a) for state, got, was_a in new
+                      for p, own in each if (own, *got[p]) in next_of for response, last in [self.act[next_of[own, *got[p]]][state]]} - scenes:
+            scenes = scenes | new
+        ends = {(p, got[p], was_a) for _, got, was_a in scenes for p, own in each if (own, *got[p]) not in next_of}
+        return a and b and len(a + b) == n and all(self.act[it[2]] for it in then) and not any((*it, not was_a) in ends for *it, was_a in ends)
+    def signs(self, n, start, one, many, then, side):  # all do `many`, but one; then all look for a response that comes only if this side was first
+        after = lambda states, *them: {self.act[o][s][1] for s in states for o in them}
+        grown = lambda states: states if (more := states | after(states, many, *then)) == states else grown(more)
+        own, other = [grown(after({start}, one)), (rest := grown(after({start}, many))) | grown(after(rest, one))][::1 if side == "A" else -1]
+        shown = lambda o, s: self.act[o][s][0] not in {self.act[o][it][0] for it in other}
+        left = {s: {self.act[o][s][1] for o in then if not shown(o, s)} - {s} for s in own}
+        while ends := {s for s in left if not left[s] & left.keys()}:  # changes without a sign come to an end
+            left = {s: left[s] for s in left.keys() - ends}
+        return n is None and len(then) <= 8 and not left and all(any(shown(o, s) or self.act[o][s][1] != s for o in then) for s in own)
+    def is_trap(self, n, turns):  # two runs that processes do not tell apart: each move leads back, and each choice begins in the trap
+        boards = collections.defaultdict(list)
+        for first, second, standings, p, run in turns:  # a process is lost, poised, or ahead in a run, with its response there
+            known = all(self.act[o][state] for it in standings for o in it[:1] for state in (first, second)) and p < len(standings) <= 8
+            demand(known and standings[p] and run in (1, 2) and {(len(it), *it[2:]) for it in standings} <= {(0,), (1,), (3, 1), (3, 2)}, "a turn")
+            boards[first, second].append(collections.Counter(map(tuple, standings)))
+        def is_caught(*states, them):
+            return len({*states}) == 1 in map(len, them) or any(some <= collections.Counter(map(tuple, them)) for some in boards[states])
+        def leads_back(first, second, standings, p, run):
+            (o, *ahead), run = standings[p], 3 - standings[p][2] if standings[p][1:] else run
+            response, last = self.act[o][second if run == 2 else first]
+            new = [[o, response, run]] if not ahead else [[m] for m in range(len(self.act))] if ahead[0] == response else [[]]
+            return all(is_caught(*[(last, second), (first, last)][run - 1], them=[*standings[:p], it, *standings[p + 1:]]) for it in new)
+        def begins(start, a, b, p, q):
+            (one, first), (two, second), others = self.act[a[p]][start], self.act[b[q]][start], a[:p] + a[p + 1:] + b[:q] + b[q + 1:]
+            return is_caught(first, second, them=[[a[p], one, 1], [b[q], two, 2], *([o] for o in others)])
+        starts = ([(start, a, b, p, q) for p in range(len(a)) for q in range(len(b))] for start, a, b in self.choices(n, 4))
+        return all(leads_back(*it) for it in turns) and all(any(begins(*it) for it in some) for some in starts)
+    def check(self, certificate):
+        demand([*sorted(certificate)] == "at_least at_most least most type version".split(), "another key")
+        low, high, least, most, name, version = (certificate[key] for key in sorted(certificate))
+        demand(name == self.name and are_numbers([version, low or 0, high or 0]) and low is not False is not high, "the type, or a number")
+        demand((low or 1) <= 8 and (high is None or low and low <= high <= 7), "the bounds")
+        [(key, shown)] = [(None, [])] if least is None else least.items()
+        numbers = flat([shown[:4], [] if most is None else most])
+        demand(are_numbers(numbers) and max(numbers, default=0) < 256 and shown[4:] in ([], ["A"], ["B"]), "a number of the evidence")
+        ways = {None: lambda n: n == 1, "visible": self.visible, "further": self.further, "signs": self.signs}
+        demand(ways[key](low, *shown), "the lower bound is not shown")
+        demand(high is None and most is None or self.is_trap(high + 1, most), "the upper bound is not shown")
 
 def fault(table, *words):  # what is wrong, or None
     read = lambda name: pathlib.Path(name).read_bytes().decode()

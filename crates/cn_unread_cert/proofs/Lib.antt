@@ -1,0 +1,5 @@
+pub mod Claims
+pub mod Parts
+pub mod Plain
+pub mod Values
+pub mod Versions

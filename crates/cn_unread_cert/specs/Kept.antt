@@ -1,0 +1,74 @@
+-- What a certificate keeps of the evidence for a number without reads. New here.
+use Rattle.std.specs.Prelude.{◌≡◌, ℕ, ◌≤◌, ◌<◌, Option, Some, None, IfSome}
+use Rattle.cn_table.specs.TypeTable.{TypeTable}
+use Rattle.cn_choice.specs.declared.limits.TheConstants.{MOST_PROCESSES}
+use Rattle.cn_unread_number.specs.Evidence.{ShowsLeast, ShowsMost}
+use Rattle.cn_unread_number.specs.declared.bounds.NumberBounds.{NumberBounds}
+use Rattle.cn_unread_number.specs.declared.bounds.NumberBounds.TheVariants.{AtLeast, Between, Exactly}
+use Rattle.cn_unread_number.specs.declared.bounds.NumberBounds.TheVariants.{Infinite}
+use Rattle.cn_unread_number.specs.declared.evidence.LeastEvidence.{LeastEvidence}
+use Rattle.cn_unread_number.specs.declared.evidence.LeastEvidence.TheVariants as least
+use Rattle.cn_unread_number.specs.declared.evidence.MostEvidence.{MostEvidence}
+use Rattle.cn_unread_number.specs.declared.evidence.MostEvidence.TheVariants as most
+use Rattle.cn_unread_cert.specs.Right.{AreInRange, ShowsAtLeast, ShowsAtMost, ShowsFor}
+use Rattle.cn_unread_cert.specs.declared.certificate.LeastClaim.{LeastClaim}
+use Rattle.cn_unread_cert.specs.declared.maker.Lower.{Lower}
+use Rattle.cn_unread_cert.specs.declared.maker.Upper.{Upper}
+
+-- the lower bound, if it is one number
+abbrev pub least_of : NumberBounds → Option ℕ
+least_of (Exactly n) = Some n
+least_of Infinite = None
+least_of (Between n m) = Some n
+least_of (AtLeast n) = Some n
+
+-- the upper bound, if there is one
+abbrev pub most_of : NumberBounds → Option ℕ
+most_of (Exactly n) = Some n
+most_of Infinite = None
+most_of (Between n m) = Some m
+most_of (AtLeast n) = None
+
+-- the evidence shows the lower bound
+abbrev pub LeastIsShown : TypeTable → LeastEvidence → Option ℕ → Type 0
+LeastIsShown t low None = (n : ℕ) → 2 ≤ n → ShowsLeast t low n
+LeastIsShown t low (Some n) = (1 ≤ n) × ShowsLeast t low n
+
+-- the claim shows the lower bound; or it shows all, by the greatest number of which a certificate speaks
+abbrev pub IsClaimShown : TypeTable → LeastClaim → Option ℕ → Type 0
+IsClaimShown t claim None = ShowsFor t claim MOST_PROCESSES
+IsClaimShown t claim (Some n) = (1 ≤ n) × ShowsFor t claim n
+
+-- the evidence shows the upper bound
+abbrev pub MostIsShown : TypeTable → MostEvidence → Option ℕ → Type 0
+MostIsShown t high None = Unit {0}
+MostIsShown t high (Some m) = ShowsMost t high m
+
+-- the lower bound stands as it was shown, unless it was shown by a type that tells its states, or for
+-- more than 8 processes
+abbrev pub IsLeastKept : LeastEvidence → Option ℕ → Option ℕ → Type 0
+IsLeastKept least.Alone bound at_least = at_least ≡ Some 1
+IsLeastKept (least.Telling how) bound at_least = Unit {0}
+IsLeastKept (least.Visible c) bound at_least =
+    IfSome bound (λ n. n ≤ MOST_PROCESSES → at_least ≡ Some n)
+IsLeastKept (least.Further further) bound at_least =
+    IfSome bound (λ n. n ≤ MOST_PROCESSES → at_least ≡ Some n)
+IsLeastKept (least.Signs signs) bound at_least = at_least ≡ None
+
+-- the upper bound stands as it was shown, unless it was shown by the number with reads, or for 8
+-- processes or more
+abbrev pub IsMostKept : MostEvidence → Option ℕ → Option ℕ → Option ℕ → Type 0
+IsMostKept most.Open bound at_least at_most = at_most ≡ None
+IsMostKept most.WithReads bound at_least at_most = Unit {0}
+IsMostKept (most.Trap trap) bound at_least at_most =
+    IfSome bound (λ m. m < MOST_PROCESSES → IfSome at_least (λ n. n ≤ m → at_most ≡ Some m))
+
+-- the claim shows the lower bound, and this is in range
+pub record IsLower (t : TypeTable) (lower : Lower) : Type 0 where
+  pub shown : ShowsAtLeast t lower.by lower.at_least
+  pub in_range : AreInRange lower.at_least None
+
+-- the trap shows the upper bound, and this is in range beside the lower bound
+pub record IsUpper (t : TypeTable) (at_least : Option ℕ) (upper : Upper) : Type 0 where
+  pub shown : ShowsAtMost t upper.by upper.at_most
+  pub in_range : AreInRange at_least upper.at_most

@@ -1,0 +1,55 @@
+-- The first faults of certificates.
+use Rattle.std.proofs.Common.{◌≡◌, ◌≢◌, ℕ, ◌<◌, ◌≤◌, arith}
+use Rattle.cn_table.specs.TypeTable.{TypeTable}
+use Rattle.cn_unread_cert.specs.Certificate.{UnreadCertificate}
+use Rattle.cn_unread_cert.specs.Right.{AreInRange, IsMerging, ShowsAtLeast, ShowsAtMost}
+use Rattle.cn_unread_check.specs.FaultText.{unread_fault_number}
+use Rattle.cn_unread_check.specs.Faults.{HasFault, IsFirstFault}
+use Rattle.cn_unread_check.specs.declared.fault.UnreadCheckFault.{UnreadCheckFault}
+use Rattle.cn_unread_check.specs.declared.fault.UnreadCheckFault.TheVariants.{BadNumber, Least, Most}
+use Rattle.cn_unread_check.specs.declared.fault.UnreadCheckFault.TheVariants.{OtherType, OutOfMemory}
+use Rattle.cn_unread_check.specs.declared.fault.UnreadCheckFault.TheVariants.{TooManyScenes}
+
+module _ (t u : TypeTable) (merging : IsMerging t u) (c : UnreadCertificate) where
+  -- no fault with a number below n, if those parts are right that come sooner
+  sooner : (n : ℕ) → n ≤ 4 → (1 < n → c.type_name ≡ t.name) → (2 < n → AreInRange c.at_least c.at_most)
+      → (3 < n → ShowsAtLeast u c.least c.at_least) → (f : UnreadCheckFault)
+      → unread_fault_number f < n → ¬ HasFault t.name u c f
+  sooner n few type range least OtherType less = λ has. has (type less)
+  sooner n few type range least BadNumber less = λ has. has (range less)
+  sooner n few type range least Least less = λ has. has (least less)
+  sooner n few type range least Most less = absurd (omega (arith, less, few))
+  sooner n few type range least TooManyScenes less = λ has. has
+  sooner n few type range least OutOfMemory less = λ has. has
+
+  pub other_type : (c.type_name ≢ t.name) → IsFirstFault t c OtherType
+  other_type has = (
+    u,
+    merging,
+    has,
+    sooner 1 (omega arith) (λ less. absurd (omega (arith, less)))
+        (λ less. absurd (omega (arith, less))) (λ less. absurd (omega (arith, less))),
+  )
+
+  pub bad_number : c.type_name ≡ t.name → ¬ AreInRange c.at_least c.at_most → IsFirstFault t c BadNumber
+  bad_number type has = (
+    u,
+    merging,
+    has,
+    sooner 2 (omega arith) (λ _. type)
+        (λ less. absurd (omega (arith, less))) (λ less. absurd (omega (arith, less))),
+  )
+
+  pub no_least : c.type_name ≡ t.name → AreInRange c.at_least c.at_most
+      → ¬ ShowsAtLeast u c.least c.at_least → IsFirstFault t c Least
+  no_least type range has = (
+    u,
+    merging,
+    has,
+    sooner 3 (omega arith) (λ _. type) (λ _. range)
+        (λ less. absurd (omega (arith, less))),
+  )
+
+  pub no_most : c.type_name ≡ t.name → AreInRange c.at_least c.at_most
+      → ShowsAtLeast u c.least c.at_least → ¬ ShowsAtMost u c.most c.at_most → IsFirstFault t c Most
+  no_most type range least has = (u, merging, has, sooner 4 (omega arith) (λ _. type) (λ _. range) (λ _. least))
