@@ -82,7 +82,7 @@ least_markdown e (Some s) = signs_markdown e.table s
 -- ---- why it is no more
 
 unfoldable pub with_reads_line : ℕ → List ℕ
-with_reads_line n = decimal n ++ (codes " processes: not even with reads.\n" ++ [])
+with_reads_line n = decimal n ++ (codes " processes: not even if these states can be read.\n" ++ [])
 
 -- that reads do not help either, where no rule says so
 abbrev pub no_more_with_reads : NumberBounds → List ℕ

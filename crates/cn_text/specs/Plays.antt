@@ -7,10 +7,10 @@ use Rattle.cn_unread_reasons.specs.declared.play.Play.{Play}
 use Rattle.cn_unread_reasons.specs.declared.play.PlayEnd.{PlayEnd}
 use Rattle.cn_text.specs.Ways.{both_runs, way_start}
 
--- the process that gets the same in both runs, and the state that both leave
+-- the process that gets the same in both runs, and the state that each of them leaves
 unfoldable pub play_end : TypeTable → PlayEnd → List ℕ
 play_end t e = codes "        " ++ (process_name e.process
-    ++ (codes " gets the same in both, and both leave " ++ (name_at t.states e.state.0
+    ++ (codes " gets the same, and each leaves " ++ (name_at t.states e.state.0
     ++ (codes ":\n" ++ []))))
 
 -- the end and both runs, or that there is no end

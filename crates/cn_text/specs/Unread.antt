@@ -82,11 +82,11 @@ least_part e (Some s) = folded (signs_text e.table s)
 
 -- the rule of a type that no more processes solve with reads, if there is one
 abbrev pub with_reads_reason : Option Rule → List ℕ
-with_reads_reason None = codes " (cnum why tells why)"
+with_reads_reason None = codes " (cnum why of this table tells why)"
 with_reads_reason (Some rule) = codes ", since " ++ (rule_words rule ++ [])
 
 unfoldable pub with_reads_line : Option Rule → ℕ → List ℕ
-with_reads_line rule n = codes "Why not " ++ (decimal n ++ (codes ": not even with reads"
+with_reads_line rule n = codes "Why not " ++ (decimal n ++ (codes ": not even if these states can be read"
     ++ (with_reads_reason rule ++ (codes ".\n" ++ []))))
 
 abbrev pub no_more_with_reads : Option Rule → NumberBounds → List ℕ
@@ -95,11 +95,12 @@ no_more_with_reads rule Infinite = each_number_line
 no_more_with_reads rule (Between least most) = with_reads_line rule (most + 1)
 no_more_with_reads rule (AtLeast least) = open_line
 
--- how many positions the adversary needs
+-- why such runs are enough, and how many positions the adversary needs
 unfoldable pub trap_line : ℕ → List ℕ
 trap_line positions =
-    codes "  Whatever a protocol does, the adversary keeps it in a trap. Positions of the trap: "
-    ++ (decimal positions ++ (codes ".\n" ++ []))
+    codes "  Who gets the same in two runs that leave one state decides the same in both.\n"
+    ++ (codes "  Whatever a protocol does, the adversary keeps it in a trap. Positions of the trap: "
+    ++ (decimal positions ++ (codes ".\n" ++ [])))
 
 -- the choices, and the plays of the adversary
 unfoldable pub trap_plays : TypeTable → PlayedTrap → List ℕ

@@ -24,7 +24,7 @@ fn push_play_end(text: &mut String, table: &Table, end: PlayEnd) -> Result<(), A
         &[
             "        ",
             process,
-            " gets the same in both, and both leave ",
+            " gets the same, and each leaves ",
             state,
             ":\n",
         ],

@@ -163,7 +163,7 @@ fn push_with_reads_reason(text: &mut String, rule: Option<Rule>) -> Result<(), A
         ≡ string_bytes text.old ++ with_reads_reason rule) }
 {
     match rule {
-        None => text.push_str(" (cnum why tells why)"),
+        None => text.push_str(" (cnum why of this table tells why)"),
         Some(rule) => push_pieces(text, &[", since ", rule_words(rule)]),
     }
 }
@@ -173,7 +173,7 @@ fn push_with_reads_line(text: &mut String, rule: Option<Rule>, n: u16) -> Result
     ensures { OnOk result (string_bytes text.new
         ≡ string_bytes text.old ++ with_reads_line rule n) }
 {
-    write!(text, "Why not {n}: not even with reads")?;
+    write!(text, "Why not {n}: not even if these states can be read")?;
     push_with_reads_reason(text, rule)?;
     push_pieces(text, &[".\n"])
 }
@@ -195,12 +195,15 @@ fn push_no_more_with_reads(
     }
 }
 
-/// How many positions the adversary needs.
+/// Why such runs are enough, and how many positions the adversary needs.
 #[tactic(auto, unfolding(crate::specs::Unread::trap_line))]
 fn push_trap_line(text: &mut String, positions: usize) -> Result<(), AllocError>
     ensures { OnOk result (string_bytes text.new
         ≡ string_bytes text.old ++ trap_line positions) }
 {
+    text.push_str(
+        "  Who gets the same in two runs that leave one state decides the same in both.\n",
+    )?;
     write!(
         text,
         "  Whatever a protocol does, the adversary keeps it in a trap. Positions of the trap: {positions}.\n"
