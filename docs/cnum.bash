@@ -26,7 +26,7 @@ _cnum() {
         [[ $previous == --as ]] && values='text json'
         ;;
     why)
-        options='--limit --recoverable --all --as -h --help' arguments='FILE'
+        options='--limit --recoverable --without-read --all --as -h --help' arguments='FILE'
         [[ $previous == --limit ]] && values='2 3 4 5 6 7 8'
         [[ $previous == --as ]] && values='text json markdown'
         ;;

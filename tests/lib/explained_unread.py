@@ -18,20 +18,21 @@ def merged(table):
     return made, [{"class": table.states[one], "state": table.states[state]} for state, one in others]
 
 
-def faults(table, value, numbers, is_all):
-    """What is wrong with the value for a type, of which `classify` writes these numbers; with all choices, or the first alone."""
+def faults(table, value, without_read, readable, is_all):
+    """What is wrong with the value for a type, of which `classify` writes this number without reads, and for its table with the states merged the
+    number with reads; with all choices, or the first alone."""
     one, others = merged(table)
     if value["merged"] != others:
         yield f"merged: {value['merged']}, and not {others}"
-    if value["without_read"] != numbers["without_read"]:
-        yield f"without_read: {value['without_read']}, and not {numbers['without_read']}"
+    if value["without_read"] != without_read:
+        yield f"without_read: {value['without_read']}, and not {without_read}"
     if value["witness"]:
         yield from witness_faults(one, value["witness"])
     if value["signs"]:
         yield from sign_faults(one, value["signs"])
     if value["refuted"]:
         yield from refuted_faults(one, value["refuted"], most_of(value["without_read"]), is_all)
-    yield from reason_faults(value, numbers["number"])
+    yield from reason_faults(value, readable)
 
 
 def most_of(number):

@@ -811,7 +811,7 @@ describe('an explanation without reads', () => {
 
     it('by the number with reads has its rule', () => {
         const text = shown({ ...QUEUE, refuted: null, rule: 'two_states', telling: 'responses', with_reads: true });
-        has(text, 'Each response tells the state', 'Why not 3: not even 3 processes that read objects can agree', 'The type has two states.', 'without reads: this is proved');
+        has(text, 'Each response tells the state', 'Why not 3: not even if these states can be read', 'The type has two states.', 'without reads: this is proved');
     });
 
     it('of a number that is open says what is known', () => {

@@ -254,7 +254,7 @@ Cnum.languages.de.texts = {
     runs_endless: 'Hier kommen keine zwei solchen Läufe zu einem Ende: der Gegner kann für immer weitermachen, und kein Prozess kommt zu einer Entscheidung.',
     runs_positions: 'Was auch immer die Prozesse als Nächstes tun, der Gegner hat solche Läufe: {positions} Stellungen zeigen es, mit einem Zug in jeder.',
     why_proved_unread: 'Kein Protokoll überhaupt schafft es für {count} ohne Lesen: das ist bewiesen.',
-    why_not_read: 'Warum nicht {count}: nicht einmal {count} Prozesse, die Objekte lesen, können sich einigen',
+    why_not_read: 'Warum nicht {count}: nicht einmal, wenn diese Zustände gelesen werden können',
     no_bound_found: 'Keine obere Grenze wurde gefunden.',
     number_open: 'Was von der Zahl bekannt ist: {number}.',
 

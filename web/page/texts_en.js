@@ -255,7 +255,7 @@ Cnum.languages.en.texts = {
     runs_endless: 'No two such runs come to an end here: the adversary can go on for ever, and no process comes to a decision.',
     runs_positions: 'Whatever the processes do next, the adversary has such runs: {positions} positions show it, with a move in each.',
     why_proved_unread: 'No protocol at all does it for {count} without reads: this is proved.',
-    why_not_read: 'Why not {count}: not even {count} processes that read objects can agree',
+    why_not_read: 'Why not {count}: not even if these states can be read',
     no_bound_found: 'No upper bound was found.',
     number_open: 'What is known of the number: {number}.',
 
