@@ -200,7 +200,10 @@ fn push_least(text: &mut String, explanation: &UnreadExplanation) -> Result<(), 
 fn push_with_reads_line(text: &mut String, n: u16) -> Result<(), AllocError>
     ensures { OnOk result (string_bytes text.new ≡ string_bytes text.old ++ with_reads_line n) }
 {
-    write!(text, "{n} processes: not even if these states can be read.\n")
+    write!(
+        text,
+        "{n} processes: not even if these states can be read.\n"
+    )
 }
 
 /// That reads do not help either, where no rule says so.
