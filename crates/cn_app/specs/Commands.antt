@@ -1,11 +1,13 @@
 -- What each command writes.
 pub mod Agree
 pub mod Check
+pub mod CheckUnread
 pub mod Classify
 pub mod ClassifyEach
 pub mod Draw
 pub mod Explain
 pub mod Find
+pub mod FindUnread
 pub mod Lint
 pub mod Lives
 pub mod Pairs

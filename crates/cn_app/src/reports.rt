@@ -5,10 +5,12 @@
 
 mod agree;
 pub(crate) mod check;
+pub(crate) mod check_unread;
 mod classify;
 mod draw;
 mod explain;
 mod find;
+mod find_unread;
 mod lint;
 mod lives;
 mod pairs;
@@ -24,6 +26,7 @@ pub use classify::{AskedNumbers, check_limit, classification_of, head_report, nu
 pub use draw::draw_report;
 pub use explain::explain_report;
 pub use find::{find_report, limit_for};
+pub use find_unread::find_unread_report;
 pub use lint::lint_report;
 pub use lives::{AskedLives, lives_report};
 pub use pairs::pairs_report;

@@ -15,6 +15,10 @@ use Rattle.cn_cert.specs.declared.fault.CertFault.{CertFault}
 use Rattle.cn_cert.specs.declared.fault.CertFault.TheVariants as cert
 use Rattle.cn_check.specs.declared.fault.CheckFault.{CheckFault}
 use Rattle.cn_check.specs.declared.fault.CheckFault.TheVariants as check
+use Rattle.cn_unread_cert.specs.declared.fault.UnreadCertFault.{UnreadCertFault}
+use Rattle.cn_unread_cert.specs.declared.fault.UnreadCertFault.TheVariants as unread_cert
+use Rattle.cn_unread_check.specs.declared.fault.UnreadCheckFault.{UnreadCheckFault}
+use Rattle.cn_unread_check.specs.declared.fault.UnreadCheckFault.TheVariants as unread_check
 use Rattle.cn_agree.specs.declared.fault.ScheduleFault.{ScheduleFault}
 use Rattle.cn_agree.specs.declared.fault.ScheduleFault.TheVariants as schedule
 use Rattle.cn_log.specs.declared.fault.ReplayFault.{ReplayFault}
@@ -100,6 +104,18 @@ certificate_hint cert.Range = Some (codes
     "a number or a list is too great for a certificate, or the type has no right name")
 certificate_hint cert.OutOfMemory = None
 
+-- the same of a certificate of a number without reads
+abbrev pub unread_certificate_hint : UnreadCertFault → Option (List ℕ)
+unread_certificate_hint unread_cert.NotJson =
+    Some (codes "a certificate is one JSON object, as find --without-read writes it")
+unread_certificate_hint unread_cert.WrongShape =
+    Some (codes "it has these keys alone: at_least, at_most, least, most, type, version")
+unread_certificate_hint unread_cert.Version =
+    Some (codes "the version of a certificate without reads is 4")
+unread_certificate_hint unread_cert.Range = Some (codes
+    "a number or a list is too great for a certificate, or the type has no right name")
+unread_certificate_hint unread_cert.OutOfMemory = None
+
 -- why the check refuses a certificate
 abbrev pub check_hint : CheckFault → List ℕ
 check_hint check.OtherType = codes "the certificate is for a type of another name"
@@ -115,6 +131,18 @@ check_hint (check.NotNext entry) =
 check_hint (check.NotACollision entry) =
     codes "this entry, from 0, has no two runs that its process cannot tell apart"
 check_hint check.TooFew = codes "some choice for one process more is not refuted"
+
+-- why the check refuses a certificate of a number without reads
+abbrev pub unread_check_hint : UnreadCheckFault → Option (List ℕ)
+unread_check_hint unread_check.OtherType =
+    Some (codes "the certificate is for a type of another name")
+unread_check_hint unread_check.BadNumber =
+    Some (codes "at_least is from 1 to 8 or null, and at_most from it to 7 or null")
+unread_check_hint unread_check.Least = Some (codes "the evidence does not show at_least")
+unread_check_hint unread_check.Most = Some (codes "the evidence does not show at_most")
+unread_check_hint unread_check.TooManyScenes =
+    Some (codes "the further operations lead to too many scenes for the check")
+unread_check_hint unread_check.OutOfMemory = None
 
 abbrev pub find_hint : FindFault → Option ℕ → Option (List ℕ)
 find_hint find.BadLimit known = Some (codes "a limit is from 2 to 8")
@@ -151,8 +179,10 @@ hint_of (fault.Table f) known = table_hint f (option_map (λ s. s.now) known.tab
     (option_map string_bytes known.reason)
 hint_of (fault.Object f) known = table_hint f (option_map (λ s. s.now) known.object) false None
 hint_of (fault.Certificate f) known = certificate_hint f
+hint_of (fault.UnreadCertificate f) known = unread_certificate_hint f
 hint_of (fault.TooLong s) known = Some (size_hint s)
 hint_of (fault.Check f) known = Some (check_hint f)
+hint_of (fault.UnreadCheck f) known = unread_check_hint f
 hint_of fault.NoWitness known = Some (codes "the number is null, so there is no protocol")
 hint_of fault.NoRecordingWitness known =
     Some (codes "classify --recoverable tells for how many processes there is one")

@@ -10,6 +10,8 @@ use cn_log::ReplayFault;
 use cn_search::FindFault;
 use cn_service::ServeFault;
 use cn_table::TableFault;
+use cn_unread_cert::UnreadCertFault;
+use cn_unread_check::UnreadCheckFault;
 use std::alloc::{AllocError, AllocFailed};
 use std::error::Error;
 use std::fmt;
@@ -59,10 +61,14 @@ pub enum AppFault {
     Object(TableFault),
     /// The text of the certificate was refused.
     Certificate(CertFault),
+    /// The text of a certificate of a number without reads was refused.
+    UnreadCertificate(UnreadCertFault),
     /// A text is longer than its limit.
     TooLong(Source),
     /// The check refused the certificate.
     Check(CheckFault),
+    /// The check refused the certificate of a number without reads, or came to no end.
+    UnreadCheck(UnreadCheckFault),
     /// The certificate has no witness.
     NoWitness,
     /// The type has no recording witness for so many processes.
@@ -164,6 +170,8 @@ impl AppFault {
             AppFault::Table(TableFault::OutOfMemory)
             | AppFault::Object(TableFault::OutOfMemory)
             | AppFault::Certificate(CertFault::OutOfMemory)
+            | AppFault::UnreadCertificate(UnreadCertFault::OutOfMemory)
+            | AppFault::UnreadCheck(UnreadCheckFault::OutOfMemory)
             | AppFault::Find(FindFault::OutOfMemory)
             | AppFault::Schedule(ScheduleFault::OutOfMemory)
             | AppFault::Replay(ReplayFault::OutOfMemory) => AppFault::OutOfMemory,
@@ -182,9 +190,9 @@ impl AppFault {
             AppFault::Argument(_) => "argument: ",
             AppFault::Table(_) => "table: ",
             AppFault::Object(_) => "object: ",
-            AppFault::Certificate(_) => "certificate: ",
+            AppFault::Certificate(_) | AppFault::UnreadCertificate(_) => "certificate: ",
             AppFault::TooLong(source) => source.name(),
-            AppFault::Check(_) => "check: ",
+            AppFault::Check(_) | AppFault::UnreadCheck(_) => "check: ",
             AppFault::NoWitness => "certificate: no witness",
             AppFault::NoRecordingWitness => "table: no recording witness",
             AppFault::Find(_) => "find: ",
@@ -212,7 +220,7 @@ impl AppFault {
 
     /// The exit status of the program:
     ///
-    /// - 1: the check refused the certificate, or there is no witness;
+    /// - 1: the check refused the certificate or came to no end, or there is no witness;
     /// - 2: a text was refused;
     /// - 3: words, an argument, a limit, a count of choices, a schedule or events were refused;
     /// - 4: reading or writing failed, or a thread could not be started;
@@ -222,10 +230,11 @@ impl AppFault {
         ensures { result ≡ status_of self.now }
     {
         match self.plain() {
-            AppFault::Check(_) | AppFault::NoWitness => 1,
+            AppFault::Check(_) | AppFault::UnreadCheck(_) | AppFault::NoWitness => 1,
             AppFault::NoRecordingWitness => 1,
             AppFault::Table(_) | AppFault::Object(_) => 2,
-            AppFault::Certificate(_) | AppFault::TooLong(_) => 2,
+            AppFault::Certificate(_) | AppFault::UnreadCertificate(_) => 2,
+            AppFault::TooLong(_) => 2,
             AppFault::Words | AppFault::Argument(_) => 3,
             AppFault::Find(_) | AppFault::Schedule(_) | AppFault::Replay(_) => 3,
             AppFault::Read(_) | AppFault::Write | AppFault::Thread => 4,
@@ -251,7 +260,9 @@ impl fmt::Display for AppFault {
         match self.plain() {
             AppFault::Table(fault) | AppFault::Object(fault) => write!(f, "{head}{fault}{tail}"),
             AppFault::Certificate(fault) => write!(f, "{head}{fault}{tail}"),
+            AppFault::UnreadCertificate(fault) => write!(f, "{head}{fault}{tail}"),
             AppFault::Check(fault) => write!(f, "{head}{fault}{tail}"),
+            AppFault::UnreadCheck(fault) => write!(f, "{head}{fault}{tail}"),
             AppFault::Find(fault) => write!(f, "{head}{fault}{tail}"),
             AppFault::Schedule(fault) => write!(f, "{head}{fault}{tail}"),
             AppFault::Replay(fault) => write!(f, "{head}{fault}{tail}"),
@@ -303,6 +314,17 @@ impl From<CertFault> for AppFault {
     }
 }
 
+impl From<UnreadCertFault> for AppFault {
+    ghost use Rattle.cn_io.specs.FaultText.{plain_of};
+    ghost use Rattle.cn_io.specs.declared.fault.AppFault.TheVariants.{UnreadCertificate};
+
+    ghost from_gives = { λ fault e. e ≡ plain_of (UnreadCertificate fault) };
+
+    fn from(fault: UnreadCertFault) -> AppFault {
+        AppFault::UnreadCertificate(fault).plain()
+    }
+}
+
 impl From<CheckFault> for AppFault {
     ghost use Rattle.cn_io.specs.declared.fault.AppFault.TheVariants.{Check};
 
@@ -310,6 +332,17 @@ impl From<CheckFault> for AppFault {
 
     fn from(fault: CheckFault) -> AppFault {
         AppFault::Check(fault)
+    }
+}
+
+impl From<UnreadCheckFault> for AppFault {
+    ghost use Rattle.cn_io.specs.FaultText.{plain_of};
+    ghost use Rattle.cn_io.specs.declared.fault.AppFault.TheVariants.{UnreadCheck};
+
+    ghost from_gives = { λ fault e. e ≡ plain_of (UnreadCheck fault) };
+
+    fn from(fault: UnreadCheckFault) -> AppFault {
+        AppFault::UnreadCheck(fault).plain()
     }
 }
 

@@ -1,6 +1,6 @@
 //! What to do about a fault, for a person who reads it.
 ghost use Rattle.std.specs.Prelude.{◌≡◌, Some, option_map};
-ghost use Rattle.cn_io.specs.Hints.{argument_hint, certificate_hint, check_hint, find_hint, hint_of, hint_text, lint_hint, replay_hint, schedule_hint, size_hint, table_hint};
+ghost use Rattle.cn_io.specs.Hints.{argument_hint, certificate_hint, check_hint, find_hint, hint_of, hint_text, lint_hint, replay_hint, schedule_hint, size_hint, table_hint, unread_certificate_hint, unread_check_hint};
 
 use crate::fault::{AppFault, Argument, Source};
 use crate::known::Known;
@@ -10,6 +10,8 @@ use cn_check::CheckFault;
 use cn_log::ReplayFault;
 use cn_search::FindFault;
 use cn_table::TableFault;
+use cn_unread_cert::UnreadCertFault;
+use cn_unread_check::UnreadCheckFault;
 use std::fmt;
 
 /// What to do about a fault.
@@ -127,6 +129,42 @@ fn certificate_hint(fault: CertFault) -> Option<Hint<'static>>
     }))
 }
 
+fn unread_certificate_hint(fault: UnreadCertFault) -> Option<Hint<'static>>
+    ensures { option_map hint_text result ≡ unread_certificate_hint fault }
+{
+    Some(Hint::Says(match fault {
+        UnreadCertFault::NotJson => {
+            "a certificate is one JSON object, as find --without-read writes it"
+        }
+        UnreadCertFault::WrongShape => {
+            "it has these keys alone: at_least, at_most, least, most, type, version"
+        }
+        UnreadCertFault::Version => "the version of a certificate without reads is 4",
+        UnreadCertFault::Range => {
+            "a number or a list is too great for a certificate, or the type has no right name"
+        }
+        UnreadCertFault::OutOfMemory => return None,
+    }))
+}
+
+// Why the check refuses a certificate of a number without reads.
+fn unread_check_hint(fault: UnreadCheckFault) -> Option<Hint<'static>>
+    ensures { option_map hint_text result ≡ unread_check_hint fault }
+{
+    Some(Hint::Says(match fault {
+        UnreadCheckFault::OtherType => "the certificate is for a type of another name",
+        UnreadCheckFault::BadNumber => {
+            "at_least is from 1 to 8 or null, and at_most from it to 7 or null"
+        }
+        UnreadCheckFault::Least => "the evidence does not show at_least",
+        UnreadCheckFault::Most => "the evidence does not show at_most",
+        UnreadCheckFault::TooManyScenes => {
+            "the further operations lead to too many scenes for the check"
+        }
+        UnreadCheckFault::OutOfMemory => return None,
+    }))
+}
+
 // Why the check refuses a certificate.
 fn check_hint(fault: &CheckFault) -> &'static str
     ensures { result.now ≡ check_hint fault.now }
@@ -207,8 +245,10 @@ impl AppFault {
             },
             AppFault::Object(fault) => table_hint(*fault, known.object, false, None),
             AppFault::Certificate(fault) => certificate_hint(*fault),
+            AppFault::UnreadCertificate(fault) => unread_certificate_hint(*fault),
             AppFault::TooLong(source) => Some(Hint::Says(size_hint(source))),
             AppFault::Check(fault) => Some(Hint::Says(check_hint(fault))),
+            AppFault::UnreadCheck(fault) => unread_check_hint(*fault),
             AppFault::NoWitness => Some(Hint::Says("the number is null, so there is no protocol")),
             AppFault::NoRecordingWitness => Some(Hint::Says(
                 "classify --recoverable tells for how many processes there is one",

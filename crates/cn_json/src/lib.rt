@@ -45,4 +45,4 @@ pub use pairs::pairs_json;
 pub use plan::plan_json;
 pub use recoverable::recoverable_explanation_json;
 pub use unread::unread_explanation_json;
-pub use verdict::{unread_json, verdict_json};
+pub use verdict::{refusal_json, unread_json, verdict_json};

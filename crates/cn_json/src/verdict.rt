@@ -90,13 +90,21 @@ fn write_verdict(out: &mut JsonText, verdict: Result<(), CheckFault>) -> Result<
     }
 }
 
-fn write_unread(out: &mut JsonText, fault: CertFault) -> Result<(), AllocError>
-    ensures { Appends result out.old out.new (value_tokens (unread_data fault)) }
+/// Writes that a certificate has a fault of this name and this number.
+fn write_named_refusal(out: &mut JsonText, name: &str, number: u8) -> Result<(), AllocError>
+    ensures { Appends result out.old out.new
+        (value_tokens (refused_data (named_fault name.now number))) }
 {
     out.begin_object()?;
     out.key("fault")?;
-    write_named_fault(out, fault.name(), fault.number())?;
+    write_named_fault(out, name, number)?;
     out.last_members(&[("ok", Boolean(false))])
+}
+
+fn write_unread(out: &mut JsonText, fault: CertFault) -> Result<(), AllocError>
+    ensures { Appends result out.old out.new (value_tokens (unread_data fault)) }
+{
+    write_named_refusal(out, fault.name(), fault.number())
 }
 
 /// The verdict of [`check`](cn_check::check) on a certificate, as one compact JSON object:
@@ -131,5 +139,22 @@ pub fn unread_json(alloc: Global, fault: CertFault) -> Result<String, AllocError
 {
     let mut out = JsonText::new(alloc);
     write_unread(&mut out, fault)?;
+    Ok(out.finish())
+}
+
+/// The answer for a certificate with a fault of this name and this number, in the form of
+/// [`verdict_json`]: `{"fault":{"name":..,"number":..},"ok":false}`.
+///
+/// # Errors
+///
+/// `AllocError` if memory runs out.
+pub fn refusal_json(alloc: Global, name: &str, number: u8) -> Result<String, AllocError>
+    // promise: answers-as-json (refused_data, named_fault)
+    // promise: verdict-by-check-without-reads
+    ensures { IfOk result (λ text. string_bytes text
+        ≡ compact_text (refused_data (named_fault name.now number))) }
+{
+    let mut out = JsonText::new(alloc);
+    write_named_refusal(&mut out, name, number)?;
     Ok(out.finish())
 }

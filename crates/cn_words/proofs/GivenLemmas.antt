@@ -13,7 +13,7 @@ use Rattle.cn_form.specs.declared.answer_form.DocumentForm.{DocumentForm}
 use Rattle.cn_form.specs.declared.plan_form.PlanForm.{PlanForm}
 use Rattle.cn_form.specs.declared.answer_form.AnswerForm.{AnswerForm}
 use Rattle.cn_words.specs.declared.commands.Command.{Command}
-use Rattle.cn_words.specs.declared.commands.Command.TheVariants.{Find, Lint, Draw, Check, Explain, Why, WhyRecoverable, WhyUnread, Pairs, Show, Agree, Replay, Serve}
+use Rattle.cn_words.specs.declared.commands.Command.TheVariants.{Find, FindUnread, Lint, Draw, Check, CheckUnread, Explain, Why, WhyRecoverable, WhyUnread, Pairs, Show, Agree, Replay, Serve}
 use Rattle.cn_words.specs.declared.commands.Invocation.{Invocation}
 use Rattle.cn_words.specs.declared.commands.Invocation.TheVariants.{Classify, Lives, OfTable}
 use Rattle.cn_words.specs.declared.commands.OpeningWords.{OpeningWords}
@@ -98,10 +98,14 @@ WantsLimit rows without_read recoverable =
     MatchBool without_read ((recoverable ≡ false) × (first_of (codes "limit") rows ≡ None))
     (MatchBool recoverable (first_of (codes "limit") rows ≡ None) ((n : Option ℕ) × HasLimit rows n))
 
+-- what `find` requires of the words for its limit
+abbrev pub WantsFindLimit : List Row → Bool → Type 0
+WantsFindLimit rows without_read = MatchBool without_read (first_of (codes "limit") rows ≡ None) ((n : Option ℕ) × HasLimit rows n)
+
 -- what a command of this name requires of its words
 abbrev pub Wants : Text → List Row → Type 0
 Wants name rows =
-    MatchBool (bytes_eq name (codes "find")) ((n : Option ℕ) × HasLimit rows n)
+    MatchBool (bytes_eq name (codes "find")) (WantsFindLimit rows (is_flag_set (codes "without-read") rows))
     (MatchBool (bytes_eq name (codes "lint")) ((form : AnswerForm) × HasAnswerForm rows form)
     (MatchBool (bytes_eq name (codes "draw")) (Unit {0})
     (MatchBool (bytes_eq name (codes "check")) (((w : TextSource) × HasCertificate rows w) × ((form : AnswerForm) × HasAnswerForm rows form))
@@ -123,10 +127,12 @@ limits rows w r d e is_w is_r h = subst (λ b. WantsLimit rows b r) (sym is_w) (
 
 -- every command of this name has what it requires
 pub wants : (name : Text) (rows : List Row) (c : Command) → IsNamed name rows c → Wants name rows
-wants name rows (Find limit) h = subst (λ n. Wants n rows) (sym h.0) (limit, h.1)
+wants name rows (Find limit) h = subst (λ n. Wants n rows) (sym h.0) (subst (WantsFindLimit rows) (sym h.1.1) (limit, h.1.0))
+wants name rows FindUnread h = subst (λ n. Wants n rows) (sym h.0) (subst (WantsFindLimit rows) (sym h.1.0) h.1.1)
 wants name rows (Lint form) h = subst (λ n. Wants n rows) (sym h.0) (form, h.1)
 wants name rows Draw h = subst (λ n. Wants n rows) (sym h.0) tt
 wants name rows (Check certificate form) h = subst (λ n. Wants n rows) (sym h.0) ((certificate, h.1.0), (form, h.1.1))
+wants name rows (CheckUnread certificate form) h = subst (λ n. Wants n rows) (sym h.0) ((certificate, h.1.0), (form, h.1.1))
 wants name rows (Explain certificate all form) h = subst (λ n. Wants n rows) (sym h.0) ((certificate, h.1.0), (form, h.1.2))
 wants name rows (Why limit all form) h =
     subst (λ n. Wants n rows) (sym h.0) (limits rows _ _ false false h.1.4 h.1.3 (limit, h.1.0), (form, h.1.2))

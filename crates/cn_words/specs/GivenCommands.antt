@@ -16,7 +16,8 @@ use Rattle.cn_form.specs.declared.plan_form.PlanForm.TheVariants as form
 use Rattle.cn_form.specs.declared.answer_form.AnswerForm.{AnswerForm}
 use Rattle.cn_form.specs.declared.answer_form.AnswerForm.TheVariants as answer
 use Rattle.cn_words.specs.declared.commands.Command.{Command}
-use Rattle.cn_words.specs.declared.commands.Command.TheVariants.{Find, Lint, Draw, Check}
+use Rattle.cn_words.specs.declared.commands.Command.TheVariants.{Find, FindUnread, Lint}
+use Rattle.cn_words.specs.declared.commands.Command.TheVariants.{Draw, Check, CheckUnread}
 use Rattle.cn_words.specs.declared.commands.Command.TheVariants.{Explain, Why, WhyRecoverable}
 use Rattle.cn_words.specs.declared.commands.Command.TheVariants.{WhyUnread, Pairs, Show, Agree}
 use Rattle.cn_words.specs.declared.commands.Command.TheVariants.{Replay, Serve}
@@ -170,9 +171,11 @@ is_limit_excluded rows =
 
 abbrev pub name_of : Command → Text
 name_of (Find limit) = codes "find"
+name_of FindUnread = codes "find"
 name_of (Lint form) = codes "lint"
 name_of Draw = codes "draw"
 name_of (Check certificate form) = codes "check"
+name_of (CheckUnread certificate form) = codes "check"
 name_of (Explain certificate all form) = codes "explain"
 name_of (Why limit all form) = codes "why"
 name_of (WhyRecoverable all form) = codes "why"
@@ -185,11 +188,18 @@ name_of (Serve opening calls form) = codes "serve"
 
 -- each argument is what its word says
 abbrev pub HasArguments : List Row → Command → Type 0
-HasArguments rows (Find limit) = HasLimit rows limit
+HasArguments rows (Find limit) =
+    HasLimit rows limit × (is_flag_set (codes "without-read") rows ≡ false)
+HasArguments rows FindUnread = (is_flag_set (codes "without-read") rows ≡ true)
+    × (first_of (codes "limit") rows ≡ None)
 HasArguments rows (Lint form) = HasAnswerForm rows form
 HasArguments rows Draw = Unit {0}
 HasArguments rows (Check certificate form) =
     HasCertificate rows certificate × HasAnswerForm rows form
+    × (is_flag_set (codes "without-read") rows ≡ false)
+HasArguments rows (CheckUnread certificate form) =
+    HasCertificate rows certificate × HasAnswerForm rows form
+    × (is_flag_set (codes "without-read") rows ≡ true)
 HasArguments rows (Explain certificate all form) =
     HasCertificate rows certificate × HasFlag (codes "all") rows all × HasAnswerForm rows form
 HasArguments rows (Why limit all form) =

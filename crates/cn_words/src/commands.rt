@@ -41,6 +41,8 @@ pub enum Command<'a> {
         /// The greatest number looked for, if one was given.
         limit: Option<u8>,
     },
+    /// Writes the certificate of the type's number without reads.
+    FindUnread,
     /// Writes the table, or every flaw of it.
     Lint {
         /// The form of the answer.
@@ -50,6 +52,13 @@ pub enum Command<'a> {
     Draw,
     /// Checks the certificate.
     Check {
+        /// The certificate.
+        certificate: TextSource<'a>,
+        /// The form of the answer.
+        form: AnswerForm,
+    },
+    /// Checks the certificate of a number without reads.
+    CheckUnread {
         /// The certificate.
         certificate: TextSource<'a>,
         /// The form of the answer.
@@ -306,9 +315,30 @@ fn tables<'a>(
     }
 }
 
+// Whether the number without reads is asked for.
+fn is_unread(words: &ArgMatches<'_>) -> bool
+    ensures { result ≡ is_flag_set (codes "without-read") (rows_in words.now) }
+{
+    is_flag_set(words, "without-read")
+}
+
+// The number without reads has no limit.
+fn find_unread<'a>(words: &ArgMatches<'a>) -> Option<Command<'a>>
+    requires { is_flag_set (codes "without-read") (rows_in words.now) ≡ true }
+    ensures { Finds (IsNamed (codes "find") (rows_in words.now)) result }
+{
+    match word(words, "limit") {
+        Some(_) => None,
+        None => Some(Command::FindUnread),
+    }
+}
+
 fn find<'a>(words: &ArgMatches<'a>) -> Option<Command<'a>>
     ensures { Finds (IsNamed (codes "find") (rows_in words.now)) result }
 {
+    if is_unread(words) {
+        return find_unread(words);
+    }
     Some(Command::Find {
         limit: optional_limit(words)?,
     })
@@ -318,7 +348,7 @@ fn find<'a>(words: &ArgMatches<'a>) -> Option<Command<'a>>
 fn is_limit_excluded(words: &ArgMatches<'_>) -> bool
     ensures { result ≡ is_limit_excluded (rows_in words.now) }
 {
-    is_flag_set(words, "without-read") && word(words, "limit").is_some()
+    is_unread(words) && word(words, "limit").is_some()
 }
 
 fn classify<'a>(alloc: Global, words: &ArgMatches<'a>) -> Result<Option<Invocation<'a>>, AllocError>
@@ -356,10 +386,12 @@ fn lint<'a>(words: &ArgMatches<'a>) -> Option<Command<'a>>
 fn check<'a>(words: &ArgMatches<'a>) -> Option<Command<'a>>
     ensures { Finds (IsNamed (codes "check") (rows_in words.now)) result }
 {
-    Some(Command::Check {
-        certificate: certificate(words)?,
-        form: answer_form(words)?,
-    })
+    let certificate = certificate(words)?;
+    let form = answer_form(words)?;
+    if is_unread(words) {
+        return Some(Command::CheckUnread { certificate, form });
+    }
+    Some(Command::Check { certificate, form })
 }
 
 fn explain<'a>(words: &ArgMatches<'a>) -> Option<Command<'a>>
@@ -402,7 +434,7 @@ fn why_unread<'a>(words: &ArgMatches<'a>) -> Option<Command<'a>>
 fn why<'a>(words: &ArgMatches<'a>) -> Option<Command<'a>>
     ensures { Finds (IsNamed (codes "why") (rows_in words.now)) result }
 {
-    if is_flag_set(words, "without-read") {
+    if is_unread(words) {
         return why_unread(words);
     }
     if is_flag_set(words, "recoverable") {

@@ -74,6 +74,10 @@ where an operation leaves the start state unchanged cannot work and are skipped.
 1: not even two processes can agree. A number equal to N stands for at least N; a smaller one is
 that for every greater limit too.
 
+With --without-read writes a certificate of the number for objects that are not read, which classify
+--without-read writes: bounds of it, or every number, and the evidence for each. No read is added:
+list every way to look at the object. --limit does not stand beside it.
+
 ",
     "  cnum find --limit 3 < types/test_and_set.toml
 writes a certificate with \"number\":2."
@@ -145,6 +149,9 @@ Writes ok where the certificate is of this type and shows its number: its witnes
 one process more, it has a counterexample (collision) to every choice, in order; choices where an
 operation leaves the start state unchanged cannot work, and version 2 skips them. What find writes
 is accepted, and so is a certificate with another witness or other collisions.
+
+With --without-read CERT is a certificate that find --without-read writes. Writes ok where it is of
+this type and its evidence shows its bounds.
 
 With --as json writes one JSON object, which says whether the certificate is accepted, and else the
 fault, which stands on standard error too.
@@ -489,8 +496,10 @@ fn with_table<'a>(
 fn find<'a>(alloc: Global) -> Result<Command<'a>, AllocError>
     ensures { IfOk result (IsCommand find_words) }
 {
+    let without_read = "Writes a certificate of the number without reads, with no limit";
     let command = bare_command(alloc, "find", FIND_ABOUT, FIND_AFTER);
     let command = with_argument(Ok(command), limit(alloc));
+    let command = with_argument(command, flag(alloc, "without-read", without_read));
     with_table(alloc, command)
 }
 
@@ -536,7 +545,9 @@ fn check<'a>(alloc: Global) -> Result<Command<'a>, AllocError>
     ensures { IfOk result (IsCommandFor answer_forms check_words) }
 {
     let help = "The form in which the answer is written";
+    let without_read = "Checks a certificate of the number without reads";
     let command = with_certificate(alloc, "check", CHECK_ABOUT, CHECK_AFTER);
+    let command = with_argument(command, flag(alloc, "without-read", without_read));
     let command = with_argument(command, form(alloc, &ANSWER_FORMS, help));
     with_table(alloc, command)
 }

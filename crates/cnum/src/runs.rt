@@ -227,6 +227,7 @@ fn certificate_of<'a>(command: &Command<'a>) -> Option<TextSource<'a>>
 {
     match *command {
         Command::Check { certificate, .. }
+        | Command::CheckUnread { certificate, .. }
         | Command::Explain { certificate, .. }
         | Command::Show { certificate, .. }
         | Command::Agree { certificate, .. } => Some(certificate),
@@ -253,6 +254,7 @@ fn run_on_table<T: Threads + Sync + Disk, S: Read + Copy, O: Write>(
 {
     match *command {
         Command::Find { limit } => commands::find(rt, alloc, table, output, limit),
+        Command::FindUnread => commands::find_unread(rt, alloc, table, output),
         Command::Lint { form } => commands::lint(alloc, table, output, form),
         Command::Draw => commands::draw(alloc, table, output),
         Command::Why { limit, all, form } => {
@@ -291,6 +293,10 @@ fn run_on_both<T: Threads + Wait + Sync + Disk, S: Read + Copy + Drop, O: Write>
     match *command {
         Command::Check { form, .. } => {
             let end = commands::check(alloc, &mut table, &mut certificate, output, form);
+            noting_table(alloc, known, &table, end)
+        }
+        Command::CheckUnread { form, .. } => {
+            let end = commands::check_unread(alloc, &mut table, &mut certificate, output, form);
             noting_table(alloc, known, &table, end)
         }
         Command::Explain { all, form, .. } => {

@@ -1,5 +1,5 @@
 -- The certificates of findings.
-use Rattle.std.proofs.Common.{◌≡◌, ◌≤◌, ℕ, length, sym, subst}
+use Rattle.std.proofs.Common.{◌≤◌, ℕ, length, sym, subst}
 use Rattle.cn_table.specs.TypeTable.{TypeTable}
 use Rattle.cn_finding.specs.Evidence.{IsFindingFor}
 use Rattle.cn_finding.specs.Finding.{Finding}

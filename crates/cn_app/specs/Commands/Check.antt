@@ -5,7 +5,9 @@ use Rattle.serde_json.specs.Data.{Data}
 use Rattle.serde_json.specs.Written.{compact_text}
 use Rattle.cn_table.specs.TypeTable.{TypeTable}
 use Rattle.cn_choice.specs.Discerning.{IsNumberUpTo}
-use Rattle.cn_json.specs.Verdict.{accepted_data, unread_data, verdict_data}
+use Rattle.cn_json.specs.Verdict.{accepted_data, named_fault, refused_data, unread_data, verdict_data}
+use Rattle.cn_unread_cert.specs.FaultText.{unread_cert_fault_name, unread_cert_fault_number}
+use Rattle.cn_unread_check.specs.FaultText.{unread_fault_name, unread_fault_number}
 use Rattle.cn_form.specs.declared.answer_form.AnswerForm.{AnswerForm}
 use Rattle.cn_form.specs.declared.answer_form.AnswerForm.TheVariants as form
 use Rattle.cn_app.specs.Forms.{if_json}
@@ -18,6 +20,7 @@ use Rattle.cn_io.specs.declared.report.Report.{Report}
 use Rattle.cn_io.specs.declared.streams.text.Text.{Text}
 use Rattle.cn_io.specs.declared.fault.AppFault.{AppFault}
 use Rattle.cn_io.specs.declared.fault.AppFault.TheVariants.{Certificate, Check, OutOfMemory}
+use Rattle.cn_io.specs.declared.fault.AppFault.TheVariants.{UnreadCertificate, UnreadCheck}
 
 -- the number of the certificate is that of the table up to its limit
 abbrev pub HasItsNumber : Checked → Type 0
@@ -41,6 +44,10 @@ IsOkReport told r = (checked : Checked) → IsChecked checked → IsCheckReport 
 abbrev pub fault_told : AppFault → Option Data
 fault_told (Certificate fault) = Some (unread_data fault)
 fault_told (Check fault) = Some (verdict_data (Err fault))
+fault_told (UnreadCertificate fault) = Some (refused_data
+    (named_fault (unread_cert_fault_name fault) (unread_cert_fault_number fault)))
+fault_told (UnreadCheck fault) =
+    Some (refused_data (named_fault (unread_fault_name fault) (unread_fault_number fault)))
 fault_told e = None
 
 -- the report on a certificate that is refused for this fault, which is told; or memory ran out

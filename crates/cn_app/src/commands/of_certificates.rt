@@ -3,6 +3,7 @@
 ghost use Rattle.std.specs.Prelude.{◌⊎◌};
 ghost use Rattle.cn_app.specs.Commands.Agree.{HasAgreeReport, SpellLists};
 ghost use Rattle.cn_app.specs.Commands.Check.{HasCheckReport};
+ghost use Rattle.cn_app.specs.Commands.CheckUnread.{HasCheckUnreadReport};
 ghost use Rattle.cn_app.specs.Commands.Explain.{HasExplainReport};
 ghost use Rattle.cn_app.specs.Commands.Show.{HasShowReport};
 ghost use Rattle.cn_io.specs.Texts.Checked.{AreUntouched, HaveReadBoth};
@@ -10,9 +11,10 @@ ghost use Rattle.cn_io.specs.Streams.Reading.{IsUnread};
 ghost use Rattle.cn_io.specs.Streams.Writing.{IsWritable, Reports};
 
 use crate::reports::check::verdict_report;
+use crate::reports::check_unread::unread_verdict_report;
 use crate::reports::{AskedRun, agree_report, explain_report, show_report};
 use cn_form::{AnswerForm, PlanForm};
-use cn_io::readers::{check_certificate, read_checked, read_table};
+use cn_io::readers::{check_certificate, check_unread_certificate, read_checked, read_table};
 use cn_io::{AppFault, ListText, Outcome, Output, Text, read_run_lists};
 use std::alloc::Global;
 use std::io::{Read, Write};
@@ -47,6 +49,39 @@ pub fn check<R: Read, C: Read, W: Write>(
     let table = read_table(alloc, table)?;
     let verdict = check_certificate(alloc, &table, certificate);
     output.report(verdict_report(alloc, verdict, form))
+}
+
+/// Reads a type table and a certificate of its number without reads, checks the certificate against
+/// the table, and writes `ok` and a line feed if the check accepts it. As JSON, writes the verdict; of
+/// a certificate that is refused it has the fault, and so has the outcome.
+///
+/// # Errors
+///
+/// The first of these: those of [`read_table`]; those of [`check_unread_certificate`], as JSON without
+/// those of the text of the certificate and of the check; the writer fails. Want of memory can stand
+/// in place of any answer.
+pub fn check_unread<R: Read, C: Read, W: Write>(
+    alloc: Global,
+    table: &mut Text<R>,
+    certificate: &mut Text<C>,
+    output: &mut Output<W>,
+    form: AnswerForm,
+) -> Result<Outcome, AppFault>
+    requires texts { IsUnread table.old × IsUnread certificate.old }
+    requires output { IsWritable output.old }
+
+    // promise: order-of-checks (HaveReadBoth: order)
+    ensures read { HaveReadBoth R.remaining C.remaining table.old table.new
+        certificate.old certificate.new }
+    // promise: ok-by-check-without-reads (HasCheckUnreadReport: HasUnreadVerdictReport: IsRight)
+    // promise: verdict-by-check-without-reads (HasUnreadVerdictReport: IsUnreadCheckReport,
+    //     IsFaultReport: fault_told, IsRefusal)
+    ensures checked { Reports W.contents
+        (HasCheckUnreadReport table.new certificate.new form) output.old output.new result }
+{
+    let table = read_table(alloc, table)?;
+    let verdict = check_unread_certificate(alloc, &table, certificate);
+    output.report(unread_verdict_report(alloc, verdict, form))
 }
 
 /// Reads a type table and a certificate, checks the certificate against the table, and writes

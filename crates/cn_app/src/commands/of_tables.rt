@@ -3,6 +3,7 @@ ghost use Rattle.std.specs.Prelude.{◌≡◌, ◌⊎◌, None};
 ghost use Rattle.cn_app.specs.Commands.Classify.{HasClassReport, given_limit_fault};
 ghost use Rattle.cn_app.specs.Commands.Draw.{HasDrawReport};
 ghost use Rattle.cn_app.specs.Commands.Find.{HasFindReport};
+ghost use Rattle.cn_app.specs.Commands.FindUnread.{HasFindUnreadReport};
 ghost use Rattle.cn_app.specs.Commands.Lint.{HasLintReport};
 ghost use Rattle.cn_app.specs.Commands.Pairs.{HasPairsReport};
 ghost use Rattle.cn_app.specs.Commands.Why.{HasWhyReport};
@@ -12,8 +13,9 @@ ghost use Rattle.cn_io.specs.Streams.Reading.{HasRead, IsUnread};
 ghost use Rattle.cn_io.specs.Streams.Writing.{IsWritable, Reports};
 
 use crate::reports::{
-    AskedNumbers, check_limit, draw_report, find_report, limit_for, lint_report, numbers_report,
-    pairs_report, why_recoverable_report, why_report, why_unread_report,
+    AskedNumbers, check_limit, draw_report, find_report, find_unread_report, limit_for,
+    lint_report, numbers_report, pairs_report, why_recoverable_report, why_report,
+    why_unread_report,
 };
 use cn_form::{AnswerForm, DocumentForm};
 use cn_io::readers::read_table;
@@ -46,6 +48,30 @@ pub fn find<T: Threads + Sync, R: Read, W: Write>(
     let table = read_table(alloc, table)?;
     let limit = limit_for(&table, limit);
     output.report(find_report(rt, alloc, &table, limit))
+}
+
+/// Reads a type table and writes a certificate of its number without reads
+/// ([`find_unread_report`]).
+///
+/// # Errors
+///
+/// The first of these: those of [`read_table`]; want of memory; the writer fails.
+pub fn find_unread<T: Threads + Sync, R: Read, W: Write>(
+    rt: &T,
+    alloc: Global,
+    table: &mut Text<R>,
+    output: &mut Output<W>,
+) -> Result<Outcome, AppFault>
+    requires table { IsUnread table.old }
+    requires output { IsWritable output.old }
+
+    ensures read { HasRead Source.Table R.remaining table.old table.new }
+    // promise: certificate-by-find-without-reads (Reports, HasFindUnreadReport)
+    ensures found { Reports W.contents (HasFindUnreadReport table.new)
+        output.old output.new result }
+{
+    let table = read_table(alloc, table)?;
+    output.report(find_unread_report(rt, alloc, &table))
 }
 
 /// Reads a type table and writes why its consensus number is what it is, up to the limit if one was

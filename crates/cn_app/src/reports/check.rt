@@ -11,11 +11,11 @@ ghost use Rattle.cn_io.specs.declared.report.Outcome.TheVariants.{Refused};
 use cn_check::laws::accepted_is_right;
 use cn_form::AnswerForm;
 use cn_io::{AppFault, Outcome, Report, with_line_feed};
-use cn_json::{unread_json, verdict_json};
+use cn_json::{refusal_json, unread_json, verdict_json};
 use std::alloc::{AllocError, Global};
 
 /// What is written of an accepted certificate.
-fn ok_text(alloc: Global, form: AnswerForm) -> Result<String, AllocError>
+pub(crate) fn ok_text(alloc: Global, form: AnswerForm) -> Result<String, AllocError>
     ensures { IfOk result (λ text. string_bytes text
         ≡ if_json form (compact_text accepted_data ++ codes "\n") (codes "ok\n")) }
 {
@@ -53,12 +53,25 @@ fn told_fault(alloc: Global, fault: AppFault) -> Result<Report, AppFault>
     match fault {
         AppFault::Certificate(unread) => refusal(unread_json(alloc, unread)?, fault),
         AppFault::Check(refused) => refusal(verdict_json(alloc, Err(refused))?, fault),
+        AppFault::UnreadCertificate(unread) => {
+            refusal(refusal_json(alloc, unread.name(), unread.number())?, fault)
+        }
+        AppFault::UnreadCheck(refused) => {
+            refusal(
+                refusal_json(alloc, refused.name(), refused.number())?,
+                fault,
+            )
+        }
         _ => Err(fault),
     }
 }
 
 /// What is written of a certificate with this fault.
-fn fault_report(alloc: Global, fault: AppFault, form: AnswerForm) -> Result<Report, AppFault>
+pub(crate) fn fault_report(
+    alloc: Global,
+    fault: AppFault,
+    form: AnswerForm,
+) -> Result<Report, AppFault>
     ensures { IsFaultReport form fault result }
 {
     match form {

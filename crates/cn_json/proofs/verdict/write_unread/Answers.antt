@@ -1,8 +1,4 @@
-use Rattle.cn_json.specs.Verdict.{refused_data}
-use Rattle.cn_json.proofs.Pieces.{piece}
 use Rattle.cn_json.proofs.verdict.write_unread.Goals as goal
 
 pub returns : goal.returns
-unfolding refused_data
-returns c = rw (← c.name.ensures, ← c.number.ensures)
-    (piece c.in_ok-begin_object.ensures (piece c.in_ok-key.ensures (piece c.in_ok-write_named_fault.ensures c.last_members.ensures)))
+returns c = rw (← c.name.ensures, ← c.number.ensures) c.write_named_refusal.ensures

@@ -7,7 +7,7 @@ use Rattle.cn_words.proofs.commands.why.Goals as goal
 pub returns-in_err-limit : goal.returns-in_err-limit
 returns-in_err-limit c = rw c.from_residual.ensures (λ command is.
     let rows = rows_in c.args.words.now in
-    let w = limits rows false false _ _ (sym c.if-is_flag_set.false ∙ c.is_flag_set.ensures) (sym c.if-is_flag_set-2.false ∙ c.is_flag_set-2.ensures)
+    let w = limits rows false false _ _ (sym c.if-is_unread.false ∙ c.is_unread.ensures) (sym c.if-is_flag_set.false ∙ c.is_flag_set.ensures)
     (wants (codes "why") rows command is).0 in
     c.in_err-limit.ensures w.0 w.1)
 
@@ -22,7 +22,7 @@ returns c = (
     c.in_ok-limit.ensures,
     flag_read (found_of c.args.words.now) (codes "all") c.get_flag-all.result c.get_flag-all.ensures.none c.get_flag-all.ensures.value c.get_flag-all.ensures.other,
     c.in_ok-form.ensures,
-    sym c.is_flag_set-2.ensures ∙ c.if-is_flag_set-2.false,
     sym c.is_flag_set.ensures ∙ c.if-is_flag_set.false,
+    sym c.is_unread.ensures ∙ c.if-is_unread.false,
   ),
 )

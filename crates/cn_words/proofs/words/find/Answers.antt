@@ -3,6 +3,7 @@ use Rattle.cn_words.proofs.words.find.Goals as goal
 
 pub returns : goal.returns
 returns c =
+    let with_limit = argument_more _ c.with_argument-command.result _ _ _ c.bare_command-command.ensures c.limit.ensures c.with_argument-command.ensures in
     table_more _ c.with_table.result _
-    (argument_more _ c.with_argument-command.result _ _ _ c.bare_command-command.ensures c.limit.ensures c.with_argument-command.ensures)
+    (argument_more _ c.with_argument-command-2.result _ _ _ with_limit c.flag.ensures c.with_argument-command-2.ensures)
     c.with_table.ensures

@@ -18,6 +18,22 @@ returns-in-Check g c =
       },
     )
 
+pub returns-in-CheckUnread : goal.returns-in-CheckUnread
+returns-in-CheckUnread g c =
+    let given : Some c.in-CheckUnread.certificate ≡ Some c.args.source = ap certificate_of (sym c.in-CheckUnread.is) ∙ c.requires.command in
+    let same : c.in-CheckUnread.certificate ≡ c.args.source = cc in
+    rw c.in-CheckUnread.is (
+      c.text_of-certificate.result,
+      rw same c.text_of-certificate.ensures,
+      record {
+        table_after = c.check_unread-end.new.table;
+        certificate_after = c.check_unread-end.new.certificate;
+        read = c.check_unread-end.ensures.read;
+        order = inr tt;
+        reported = rw c.noting_table-in-CheckUnread.ensures c.check_unread-end.ensures.checked;
+      },
+    )
+
 pub returns-in-Explain : goal.returns-in-Explain
 returns-in-Explain g c =
     let given : Some c.in-Explain.certificate ≡ Some c.args.source = ap certificate_of (sym c.in-Explain.is) ∙ c.requires.command in

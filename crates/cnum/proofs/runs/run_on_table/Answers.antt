@@ -7,6 +7,13 @@ returns-in-Find g c = λ stdin. rw c.in-Find.is (record {
   reported = c.find.ensures.found;
 })
 
+pub returns-in-FindUnread : goal.returns-in-FindUnread
+returns-in-FindUnread g c = λ stdin. rw c.in-FindUnread.is (record {
+  after = c.find_unread.new.table;
+  read = c.find_unread.ensures.read;
+  reported = c.find_unread.ensures.found;
+})
+
 pub returns-in-Lint : goal.returns-in-Lint
 returns-in-Lint g c = λ stdin. rw c.in-Lint.is (record {
   after = c.lint.new.table;
