@@ -114,6 +114,24 @@ fn next_step(alloc: Global, table: &Table, n: u8) -> Result<Step, AllocError>
     }
 }
 
+/// What is shown once traps are looked for that bound the number, each for one process more.
+fn bounded(alloc: Global, table: &Table, shown: Shown) -> Result<Shown, AllocError>
+    requires { IsShown table.now shown }
+    ensures shown { IfOk result (IsShown table.now) }
+    ensures least { IfOk result (λ all. all.least ≡ shown.least) }
+    ensures within { IfOk result (λ all. IfSome shown.most (IsWithin all.most)) }
+{
+    let mut all = shown;
+    for most in all.least + 1..greatest(all.most) {
+        if let Some(trap) = find_trap(alloc, table, most + 1, MOST_POSITIONS)? {
+            all.most = Some(most);
+            all.why = MostEvidence::Trap(trap);
+            return Ok(all);
+        }
+    }
+    Ok(all)
+}
+
 /// What is shown once traps and further operations are looked for, for more and more processes.
 fn raised(alloc: Global, table: &Table, shown: Shown) -> Result<Shown, AllocError>
     requires { IsShown table.now shown }
@@ -133,7 +151,7 @@ fn raised(alloc: Global, table: &Table, shown: Shown) -> Result<Shown, AllocErro
                 all.least = least + 1;
                 all.by = LeastEvidence::Further(further);
             }
-            Step::Open => return Ok(all),
+            Step::Open => return bounded(alloc, table, all),
         }
     }
     Ok(all)
