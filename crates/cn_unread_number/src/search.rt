@@ -114,15 +114,17 @@ fn next_step(alloc: Global, table: &Table, n: u8) -> Result<Step, AllocError>
     }
 }
 
-/// What is shown once traps are looked for that bound the number, each for one process more.
-fn bounded(alloc: Global, table: &Table, shown: Shown) -> Result<Shown, AllocError>
-    requires { IsShown table.now shown }
+/// What is shown once a trap is looked for that bounds the number by this one, by the next one, and so
+/// on.
+fn bounded_from(alloc: Global, table: &Table, shown: Shown, first: u8) -> Result<Shown, AllocError>
+    requires shown { IsShown table.now shown }
+    requires least { shown.least ≤ first }
     ensures shown { IfOk result (IsShown table.now) }
     ensures least { IfOk result (λ all. all.least ≡ shown.least) }
     ensures within { IfOk result (λ all. IfSome shown.most (IsWithin all.most)) }
 {
     let mut all = shown;
-    for most in all.least + 1..greatest(all.most) {
+    for most in first..greatest(all.most) {
         if let Some(trap) = find_trap(alloc, table, most + 1, MOST_POSITIONS)? {
             all.most = Some(most);
             all.why = MostEvidence::Trap(trap);
@@ -151,7 +153,7 @@ fn raised(alloc: Global, table: &Table, shown: Shown) -> Result<Shown, AllocErro
                 all.least = least + 1;
                 all.by = LeastEvidence::Further(further);
             }
-            Step::Open => return bounded(alloc, table, all),
+            Step::Open => return bounded_from(alloc, table, all, least + 1),
         }
     }
     Ok(all)
