@@ -180,6 +180,9 @@ fn lost_starts(
 /// A trap for all choices for n processes, if one is found among fewer than `most` positions. n is
 /// from 2 to [`MOST_PROCESSES`](cn_choice::MOST_PROCESSES).
 ///
+/// It decides positions by the moves of the adversary, one move of a position after the other, those
+/// of a process that is ahead first.
+///
 /// The type of a table with a trap is not defended for n. Where none is found it may be.
 ///
 /// # Errors
