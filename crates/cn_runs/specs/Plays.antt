@@ -112,12 +112,12 @@ abbrev pub configuration_behind : {V : Type 0} → TypeTable → Protocol (List 
     → List PlayStep → Configuration (List ℕ) V
 configuration_behind t P inputs run = after (all_of t) P (initial P inputs) (schedule_of run)
 
--- the state of object 0 behind each step of a schedule
-abbrev pub states_along : {L V : Type 0} → TypeTable → Protocol L V → Configuration L V → List ℕ
-    → List ℕ
-states_along t P c [] = []
-states_along t P c (p ∷ ps) =
-    let d = step (all_of t) P c p in d.objects 0 ∷ states_along t P d ps
+-- the state of object i behind each step of a schedule
+abbrev pub states_along : {L V : Type 0} → (ℕ → TypeTable) → Protocol L V → ℕ
+    → Configuration L V → List ℕ → List ℕ
+states_along t P i c [] = []
+states_along t P i c (p ∷ ps) =
+    let d = step t P c p in d.objects i ∷ states_along t P i d ps
 
 -- the responses of each process of a run in the model, and the states of the object along it
 abbrev pub model_run : {V : Type 0} → TypeTable → (ℕ → V) → (ℕ → List ℕ → Action (List ℕ) V)
@@ -126,7 +126,7 @@ model_run t held rest inputs p run =
     let P = play_protocol held rest p in
     let end = configuration_behind t P inputs run in (
       map end.locals (range_with_len 0 (processes p)),
-      states_along t P (initial P inputs) (schedule_of run),
+      states_along (all_of t) P 0 (initial P inputs) (schedule_of run),
     )
 
 -- the same as the steps of the run tell it

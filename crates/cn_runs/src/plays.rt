@@ -1,7 +1,9 @@
 //! Pairs of runs that `why` tells for one process more than the number, made by a protocol in the
 //! model.
-ghost use Rattle.std.specs.Prelude.{◌≡◌, length};
-ghost use Rattle.cn_runs.specs.Plays.{AreMade};
+ghost use Rattle.std.specs.Prelude.{◌≡◌, ℕ, List, length};
+ghost use Rattle.cn_consensus.specs.Protocol.{Action};
+ghost use Rattle.cn_runs.specs.Plays.{AreMade, TwoRuns, play_protocol};
+ghost use Rattle.cn_runs.specs.Steps.{ReadsObject};
 ghost use Rattle.cn_runs.specs.ToldPlays.{cas_3_bool, plays_of_cas_3_bool, plays_of_queue_1};
 ghost use Rattle.cn_runs.specs.ToldPlays.{plays_of_queue_2, plays_of_test_and_set, queue_1};
 ghost use Rattle.cn_runs.specs.ToldPlays.{queue_2, test_and_set};
@@ -39,4 +41,12 @@ pub fn plays_of_test_and_set_are_runs<V>()
     ensures count { length plays_of_test_and_set ≡ 1 }
     // promise: plays-in-the-model
     ensures made { AreMade V test_and_set plays_of_test_and_set }
+{}
+
+/// The protocol of two runs reads no object, if no process does where the runs tell no next step.
+pub fn play_protocols_read_no_object<V>()
+    // promise: plays-in-the-model
+    ensures { (held : ℕ → V) (rest : ℕ → List ℕ → Action (List ℕ) V) (p : TwoRuns)
+        → ((j : ℕ) (got : List ℕ) → ¬ ReadsObject (rest j got))
+        → (j : ℕ) (got : List ℕ) → ¬ ReadsObject ((play_protocol held rest p).action j got) }
 {}
