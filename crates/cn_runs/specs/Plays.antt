@@ -1,9 +1,8 @@
 -- Two runs of a choice, one begun by each team, and a protocol in the model that makes both.
 -- New here.
 use Rattle.std.specs.Prelude.{◌≡◌, ℕ, List, [], ◌∷◌, ◌++◌, map, length, replicate, slice_get}
-use Rattle.std.specs.Prelude.{slice_index}
-use Rattle.std.specs.Prelude.{Bool, nat_eq, cond, Option, Some, None}
-use Rattle.std.specs.List.{filter, range_with_len}
+use Rattle.std.specs.Prelude.{slice_index, Bool, true, nat_eq, nat_lt, cond, Option, Some, None}
+use Rattle.std.specs.List.{filter, list_all, range_with_len}
 use Rattle.cn_table.specs.TypeTable.{TypeTable}
 use Rattle.cn_choice.specs.Canonical.{raw_choice_of}
 use Rattle.cn_choice.specs.RawChoices.{RawChoice}
@@ -64,9 +63,14 @@ abbrev pub first_team : RawChoice → List PlayStep → Option Team
 first_team c [] = None
 first_team c (s ∷ ss) = slice_get c.marks s.process
 
--- the processes of the choice
+-- how many processes the choice has
 abbrev pub processes : TwoRuns → ℕ
 processes p = length p.choice.operations
+
+-- each step is by one of these
+abbrev pub has_known_processes : TwoRuns → Bool
+has_known_processes p =
+    list_all (λ s. nat_lt s.process (processes p)) (p.a_first ++ p.b_first)
 
 -- ---- the protocol of two runs. The local state of a process is the list of the responses that it
 -- has got. It uses one object, object 0, and reads no object.
@@ -144,10 +148,11 @@ model_end t held rest inputs p run =
     (end.locals p.process, end.objects 0)
 
 -- the runs of each of these are runs of its protocol, whatever its registers hold, what processes
--- do behind the runs, and which inputs they have: one is begun by each team, and each process and
--- the object get what the steps tell. At the end the object is in one state, and the process of the
--- two runs has got the same.
+-- do behind the runs, and which inputs they have: one is begun by each team, each process gets the
+-- responses that the steps tell, and they leave the object in the states that they tell. At the
+-- end the object is in one state, and the process of the two runs has got the same.
 pub record AreMade (V : Type 0) (t : TypeTable) (plays : List TwoRuns) : Type 0 where
+  pub known : map has_known_processes plays ≡ replicate (length plays) true
   pub a_begins : map (λ p. first_team p.choice p.a_first) plays
       ≡ replicate (length plays) (Some A)
   pub b_begins : map (λ p. first_team p.choice p.b_first) plays
