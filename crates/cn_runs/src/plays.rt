@@ -1,5 +1,5 @@
-//! Pairs of runs that `why` tells for one process more than the number, made by a protocol in the
-//! model.
+//! Pairs of runs that the program tells for one process more than the number, made by a protocol
+//! in the model.
 ghost use Rattle.std.specs.Prelude.{◌≡◌, ℕ, List, length};
 ghost use Rattle.cn_consensus.specs.Protocol.{Action};
 ghost use Rattle.cn_runs.specs.Plays.{AreMade, TwoRuns, play_protocol};
@@ -8,9 +8,9 @@ ghost use Rattle.cn_runs.specs.ToldPlays.{cas_3_bool, plays_of_cas_3_bool, plays
 ghost use Rattle.cn_runs.specs.ToldPlays.{plays_of_queue_2, plays_of_test_and_set, queue_1};
 ghost use Rattle.cn_runs.specs.ToldPlays.{queue_2, test_and_set};
 
-/// For each choice for three processes at a queue with one place one protocol makes, in the model,
-/// both runs that `why --without-read` tells. Some process gets the same in both, and the queue
-/// comes to one state.
+/// For each choice for three processes at a queue with one place, one protocol makes in the model
+/// both runs that the program tells. Some process gets the same in both, and the queue comes to
+/// one state.
 pub fn plays_of_queue_1_are_runs<V>()
     // promise: plays-in-the-model
     ensures count { length plays_of_queue_1 ≡ 8 }
@@ -35,7 +35,7 @@ pub fn plays_of_cas_3_bool_are_runs<V>()
     ensures made { AreMade V cas_3_bool plays_of_cas_3_bool }
 {}
 
-/// The same for three processes at a test-and-set bit, by the collision that `why` tells.
+/// The same for three processes at a test-and-set bit, where the runs are those of a collision.
 pub fn plays_of_test_and_set_are_runs<V>()
     // promise: plays-in-the-model
     ensures count { length plays_of_test_and_set ≡ 1 }
