@@ -1,3 +1,4 @@
+pub mod AllSights
 pub mod Kept
 pub mod Listed
 pub mod Meets

@@ -3,9 +3,12 @@ ghost use Rattle.std.specs.Prelude.{◌≡◌, ◌≤◌, ◌+◌, ◌++◌, ◌
 ghost use Rattle.cn_choice.specs.Canonical.{IsChoiceFor};
 ghost use Rattle.cn_choice.specs.declared.limits.TheConstants.{MOST_PROCESSES};
 ghost use Rattle.cn_further.specs.FurtherNodes.{AreKnown, TellsFirst};
+ghost use Rattle.cn_further.specs.FurtherSights.{AreFurtherSights};
 
 use crate::follow_up::{FollowUp, are_of};
 use crate::meeting::meeting_in;
+use crate::sight::FurtherSight;
+use crate::sights::sights;
 use crate::walk::walk;
 use arrayvec::ArrayVec;
 use cn_choice::laws::choice_by_teams;
@@ -94,5 +97,31 @@ impl Further {
             return Ok(Some(false));
         }
         is_shown(alloc, table, &self.choice, follow_ups)
+    }
+
+    /// What each of n processes can have got when it has finished, by the team that was first: by
+    /// the team, then by the process, and then by the numbers of the responses. Each is there once,
+    /// and comes in some run.
+    ///
+    /// `None` if there are more than 20,000 scenes, as for [`Further::tells`].
+    ///
+    /// # Errors
+    ///
+    /// `AllocError` if memory runs out.
+    pub fn sights(
+        &self,
+        alloc: Global,
+        table: &Table,
+        n: u8,
+    ) -> Result<Option<Vec<FurtherSight>>, AllocError>
+        requires few { n ≤ MOST_PROCESSES }
+        requires choice { IsChoiceFor table.now n self.now.choice }
+        requires known { AreKnown table.now (self.now.choice.a ++ self.now.choice.b)
+            self.now.follow_ups.items }
+        // promise: further-operations-sights (AreFurtherSights)
+        ensures { IfOk result (λ found. IfSome found (λ list. AreFurtherSights table.now
+            self.now.choice self.now.follow_ups.items list.items)) }
+    {
+        sights(alloc, table, &self.choice, self.follow_ups.as_slice())
     }
 }

@@ -19,6 +19,8 @@ mod listing;
 mod meeting;
 mod scene;
 mod search;
+mod sight;
+mod sights;
 mod stage;
 #[cfg(test)]
 mod tests;
@@ -27,3 +29,4 @@ mod walk;
 pub use follow_up::FollowUp;
 pub use further::Further;
 pub use search::find_further;
+pub use sight::{FurtherAnswer, FurtherSight};
