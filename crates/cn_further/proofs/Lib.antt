@@ -2,4 +2,5 @@ pub mod AllSights
 pub mod Kept
 pub mod Listed
 pub mod Meets
+pub mod ReachedScenes
 pub mod Steps

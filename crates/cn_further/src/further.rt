@@ -100,10 +100,11 @@ impl Further {
     }
 
     /// What each of n processes can have got when it has finished, by the team that was first: by
-    /// the team, then by the process, and then by the numbers of the responses. Each is there once,
-    /// and comes in some run.
+    /// the team, and then by the number of operations that are done when it comes first. Each is
+    /// there once, and comes in some run.
     ///
-    /// `None` if there are more than 20,000 scenes, as for [`Further::tells`].
+    /// It goes through all scenes, that is states of the object with what all processes have got.
+    /// Where [`Further::tells`] answers, these are at most 20,000.
     ///
     /// # Errors
     ///
@@ -113,14 +114,14 @@ impl Further {
         alloc: Global,
         table: &Table,
         n: u8,
-    ) -> Result<Option<Vec<FurtherSight>>, AllocError>
+    ) -> Result<Vec<FurtherSight>, AllocError>
         requires few { n ≤ MOST_PROCESSES }
         requires choice { IsChoiceFor table.now n self.now.choice }
         requires known { AreKnown table.now (self.now.choice.a ++ self.now.choice.b)
             self.now.follow_ups.items }
         // promise: further-operations-sights (AreFurtherSights)
-        ensures { IfOk result (λ found. IfSome found (λ list. AreFurtherSights table.now
-            self.now.choice self.now.follow_ups.items list.items)) }
+        ensures { IfOk result (λ list.
+            AreFurtherSights table.now self.now.choice self.now.follow_ups.items list.items) }
     {
         sights(alloc, table, &self.choice, self.follow_ups.as_slice())
     }

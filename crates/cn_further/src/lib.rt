@@ -15,6 +15,7 @@
 
 mod follow_up;
 mod further;
+mod levels;
 mod listing;
 mod meeting;
 mod scene;

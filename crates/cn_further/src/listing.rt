@@ -170,7 +170,7 @@ fn has_starts(
 
 /// Whether no next operation leads out of the list, and in it each process that has finished tells
 /// this team.
-pub(crate) fn is_closed_list(
+fn is_closed_list(
     table: &Table,
     operations: &[u8],
     follow_ups: &[FollowUp],
@@ -200,7 +200,7 @@ pub(crate) struct Listing {
 impl Listing {
     /// Whether the lists have the scenes after first operations: the first those of processes below
     /// `size`, the second those of the others.
-    pub(crate) fn has_all_starts(
+    fn has_all_starts(
         &self,
         table: &Table,
         state: State,

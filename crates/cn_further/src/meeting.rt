@@ -20,7 +20,7 @@ pub(crate) struct Meeting {
 }
 
 /// The scene after these next operations of processes, the latest first.
-pub(crate) fn scene_along(
+fn scene_along(
     table: &Table,
     state: State,
     operations: &[u8],
@@ -92,7 +92,7 @@ impl Meeting {
 }
 
 /// The moves that led to the scene at this place of the list, the latest first.
-pub(crate) fn moves_to(scenes: &[Scene], place: usize) -> ArrayVec<usize, MOST_MOVES> {
+fn moves_to(scenes: &[Scene], place: usize) -> ArrayVec<usize, MOST_MOVES> {
     match scenes.get(place) {
         Some(scene) => {
             let mut moves = scene.copied_moves();

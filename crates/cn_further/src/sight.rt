@@ -1,12 +1,11 @@
 //! What processes have got when they have finished.
-ghost use Rattle.std.specs.Prelude.{◌≡◌, ◌≢◌, ◌⊎◌, ◌↔◌, AllPairs, Contains, IfSome, IsTrue, OnOk, slice_index};
-ghost use Rattle.cn_further.specs.FurtherNodes.{further_of};
-ghost use Rattle.cn_further.specs.FurtherSights.{IsFurtherFor, sight_kept};
+ghost use Rattle.std.specs.Prelude.{◌≡◌, ◌≢◌, ◌⊎◌, ◌↔◌, AllPairs, Contains, IfSome, IsTrue, MatchOption, None, OnOk};
+ghost use Rattle.cn_further.specs.FurtherNodes.{further_of, next_by};
+ghost use Rattle.cn_further.specs.FurtherSights.{Fits, IsEndOf, IsFurtherFor};
 ghost use Rattle.cn_further.specs.SceneLists.{kept_of};
 ghost use Rattle.cn_further.specs.declared.sight.FurtherSight.{FurtherSight as Told};
 
 use crate::follow_up::{FollowUp, further_of};
-use crate::listing::End;
 use crate::stage::Stage;
 use cn_choice::Team;
 use cn_table::{Operation, Response};
@@ -78,32 +77,36 @@ pub(crate) fn push_new(list: &mut Vec<FurtherSight>, sight: FurtherSight) -> Res
     Ok(())
 }
 
-/// The end of a process with this operation of the choice as it is told, unless it does not go with
-/// the follow-ups.
+/// What a process with this operation of the choice has got at the stage, if it has finished.
 pub(crate) fn sight_of(
     follow_ups: &[FollowUp],
     own: Operation,
     first: Team,
-    end: End,
+    process: u8,
+    stage: Stage,
 ) -> Option<FurtherSight>
-    ensures { IfSome result (λ s. (s.process ≡ end.process) × (s.first ≡ first)
-        × (sight_kept s ≡ kept_of end.stage) × IsFurtherFor (further_of follow_ups.now) own.0 s) }
+    requires { Fits (further_of follow_ups.now) own.0 (kept_of stage) }
+    ensures told { MatchOption result
+        (next_by (further_of follow_ups.now) own.0 (kept_of stage).0 (kept_of stage).1 ≢ None)
+        (IsEndOf first process (kept_of stage)) }
+    ensures answer { IfSome result (IsFurtherFor (further_of follow_ups.now) own.0) }
 {
-    let process = u8::try_from(end.process).ok()?;
-    let (response, further) = match end.stage {
+    let (response, further) = match stage {
         Stage::Waiting => return None,
         Stage::Moved(response) => match further_of(follow_ups, own, response) {
             Some(_) => return None,
             None => (response, None),
         },
-        Stage::Done(response, answer) => {
-            let operation = further_of(follow_ups, own, response)?;
-            let further = FurtherAnswer {
-                operation,
-                response: answer,
-            };
-            (response, Some(further))
-        }
+        Stage::Done(response, answer) => match further_of(follow_ups, own, response) {
+            Some(operation) => {
+                let further = FurtherAnswer {
+                    operation,
+                    response: answer,
+                };
+                (response, Some(further))
+            }
+            None => return None,
+        },
     };
     Some(FurtherSight {
         process,

@@ -1,35 +1,57 @@
-use Rattle.std.proofs.Common.{◌≡◌, ◌≢◌, ◌∙◌, ap, arith, length, All, [], List, refl}
+use Rattle.std.proofs.Common.{◌≡◌, ◌≢◌, ◌∙◌, ap, arith, length, All, [], List, get_or, subst, sym}
 use Rattle.std.specs.Prelude.{AllPairs}
 use Rattle.std.proofs.lemmas.List.Elements.{All-nil}
 use Rattle.cn_choice.specs.Canonical.{Choice}
 use Rattle.cn_choice.specs.declared.team.Team.TheVariants.{A, B}
 use Rattle.cn_further.specs.FurtherNodes.{further_of}
-use Rattle.cn_further.specs.FurtherSights.{IsSight, IsTold}
+use Rattle.cn_further.specs.FurtherSights.{AreScenesOf, HasEndsOf, IsSight}
+use Rattle.cn_further.specs.declared.scene.Scene.{Scene}
 use Rattle.cn_further.specs.declared.sight.FurtherSight.{FurtherSight}
-use Rattle.cn_further.proofs.AllSights.{all_sights}
+use Rattle.cn_further.proofs.AllSights.{all_sights, ends_more}
+use Rattle.cn_further.proofs.ReachedScenes.{reached_fits}
 use Rattle.cn_further.proofs.sights.sights.Goals as goal
+
+pub push_all_ends-requires-clause-fits : goal.push_all_ends-requires-clause-fits
+push_all_ends-requires-clause-fits c =
+    let t = c.args.table.now in
+    let state = c.choice.inside.state.0 in
+    let size = c.len-size.result in
+    let os = c.as_slice-operations.result.now in
+    let further = further_of c.args.follow_ups.now in
+    let are : AreScenesOf t state size os further A c.as_slice.result.now = subst (λ (xs : List Scene). AreScenesOf t state size os further A xs) (sym c.as_slice.ensures.value) c.in_ok-after_a.ensures in
+    λ k d less. reached_fits t state os further size A 0 (get_or c.as_slice.result.now k d) (are.reached k d less)
+
+pub push_all_ends-requires-2-clause-fits : goal.push_all_ends-requires-2-clause-fits
+push_all_ends-requires-2-clause-fits c =
+    let t = c.args.table.now in
+    let state = c.choice.inside.state.0 in
+    let size = c.len-size.result in
+    let os = c.as_slice-operations.result.now in
+    let further = further_of c.args.follow_ups.now in
+    let are : AreScenesOf t state size os further B c.as_slice-2.result.now = subst (λ (xs : List Scene). AreScenesOf t state size os further B xs) (sym c.as_slice-2.ensures.value) c.in_ok-after_b.ensures in
+    λ k d less. reached_fits t state os further size B 0 (get_or c.as_slice-2.result.now k d) (are.reached k d less)
 
 pub returns : goal.returns
 returns c =
     let t = c.args.table.now in
     let fs = c.args.follow_ups.now in
+    let further = further_of fs in
     let state = c.choice.inside.state.0 in
-    let size = length c.choice.inside.a.items in
+    let size = c.len-size.result in
     let os = c.as_slice-operations.result.now in
-    let front : List FurtherSight = c.push_ends.new.list.items in
-    let list : List FurtherSight = c.push_ends-2.new.list.items in
-    let whole = c.if-not-is_whole.ensures in
+    let front : List FurtherSight = c.push_all_ends.new.list.items in
+    let list : List FurtherSight = c.push_all_ends-2.new.list.items in
+    let one = c.in_ok-push_all_ends.ensures in
+    let two = c.in_ok-push_all_ends-2.ensures in
+    let are_a : AreScenesOf t state size os further A c.as_slice.result.now = subst (λ (xs : List Scene). AreScenesOf t state size os further A xs) (sym c.as_slice.ensures.value) c.in_ok-after_a.ensures in
+    let are_b : AreScenesOf t state size os further B c.as_slice-2.result.now = subst (λ (xs : List Scene). AreScenesOf t state size os further B xs) (sym c.as_slice-2.ensures.value) c.in_ok-after_b.ensures in
     let empty : c.new-sights.result.items ≡ [] = c.new-sights.ensures.items in
-    let told_a : All (IsTold A front) _ = rw c.as_slice-ends.ensures.value at (c.in_ok-push_ends.ensures.told c.if-not-branch.false) in
-    let told_b : All (IsTold B list) _ = rw c.as_slice-ends_b.ensures.value at (c.in_ok-push_ends-2.ensures.told c.if-not-branch-2.false) in
-    let first_sound : All (IsSight t state size os (further_of fs)) front = rw c.len-size.ensures.value at (c.in_ok-push_ends.ensures.sound (rw empty (All-nil _))) in
-    let sound : All (IsSight t state size os (further_of fs)) list = rw c.len-size.ensures.value at (c.in_ok-push_ends-2.ensures.sound (rw c.len-size.ensures.value first_sound)) in
-    all_sights t c.args.choice.now fs state size os _ _ _ _ front list
-    (ap (λ (d : Choice). d.state) c.choice.view_is) (ap (λ (d : Choice). length d.a) c.choice.view_is)
-    (c.as_slice-operations.ensures.value ∙ c.operations_of-list.ensures)
-    (rw c.len-size.ensures.value at (whole.starts_a refl)) (rw c.len-size.ensures.value at (whole.starts_b refl)) (whole.a refl) (whole.b refl)
-    told_a told_b c.in_ok-push_ends-2.ensures.same sound
-    (c.in_ok-push_ends-2.ensures.once (c.in_ok-push_ends.ensures.once (rw empty nothing)))
+    let ends_a : All (HasEndsOf os further A list) c.as_slice.result.now = λ k d less. ends_more os further A front list two.more (get_or c.as_slice.result.now k d) (one.ends k d less) in
+    let sound : All (IsSight t state size os further) list = two.sound t state size are_b.reached (one.sound t state size are_a.reached (rw empty (All-nil _))) in
+    all_sights t c.args.choice.now fs state size os c.as_slice.result.now c.as_slice-2.result.now list
+    (ap (λ (d : Choice). d.state) c.choice.view_is) (c.len-size.ensures.value ∙ ap (λ (d : Choice). length d.a) c.choice.view_is)
+    (c.as_slice-operations.ensures.value ∙ c.operations_of-list.ensures) are_a are_b ends_a two.ends sound
+    (two.once (one.once (rw empty nothing)))
   where
     nothing : AllPairs (λ (x y : FurtherSight). x ≢ y) []
     nothing = λ i j d less short. absurd (omega (arith, short))
