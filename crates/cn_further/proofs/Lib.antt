@@ -1,5 +1,6 @@
 pub mod AllSights
 pub mod Kept
+pub mod KnownSights
 pub mod Listed
 pub mod Meets
 pub mod ReachedScenes

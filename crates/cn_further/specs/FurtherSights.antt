@@ -1,6 +1,6 @@
 -- What processes can have got when they have finished, by the team that was first. New here.
 use Rattle.std.specs.Prelude.{◌≡◌, ◌≢◌, ◌⊎◌, ◌↔◌, ℕ, suc, ◌<◌, ◌≤◌, List, ◌++◌, length, All, AllPairs, Contains, sum_by}
-use Rattle.std.specs.Prelude.{Option, None, Some, option_map, slice_index}
+use Rattle.std.specs.Prelude.{IfSome, Option, None, Some, option_map, slice_index}
 use Rattle.cn_table.specs.TypeTable.{TypeTable}
 use Rattle.cn_choice.specs.Canonical.{Choice}
 use Rattle.cn_choice.specs.declared.team.Team.{Team}
@@ -23,6 +23,14 @@ answer_kept (Some answer) = suc answer.response.0
 
 abbrev pub sight_kept : FurtherSight → ℕ × ℕ
 sight_kept s = (suc s.response.0, answer_kept s.further)
+
+-- its operation and responses are the table's
+abbrev pub IsKnownAnswer : TypeTable → FurtherAnswer → Type 0
+IsKnownAnswer t a = (a.operation.0 < length t.operations) × (a.response.0 < length t.responses)
+
+pub record IsKnownSight (t : TypeTable) (s : FurtherSight) : Type 0 where
+  pub response : s.response.0 < length t.responses
+  pub further : IfSome s.further (IsKnownAnswer t)
 
 -- the answer is that of the further operation for the response; none if there is no such operation
 abbrev pub IsFurtherFor : (ℕ → ℕ → Option ℕ) → ℕ → FurtherSight → Type 0

@@ -1,9 +1,9 @@
 //! Choices with further operations.
-ghost use Rattle.std.specs.Prelude.{◌≡◌, ◌≤◌, ◌+◌, ◌++◌, ◌↔◌, IfOk, IfSome, IsTrue, length};
+ghost use Rattle.std.specs.Prelude.{◌≡◌, ◌≤◌, ◌+◌, ◌++◌, ◌↔◌, All, IfOk, IfSome, IsTrue, length};
 ghost use Rattle.cn_choice.specs.Canonical.{IsChoiceFor};
 ghost use Rattle.cn_choice.specs.declared.limits.TheConstants.{MOST_PROCESSES};
 ghost use Rattle.cn_further.specs.FurtherNodes.{AreKnown, TellsFirst};
-ghost use Rattle.cn_further.specs.FurtherSights.{AreFurtherSights};
+ghost use Rattle.cn_further.specs.FurtherSights.{AreFurtherSights, IsKnownSight};
 
 use crate::follow_up::{FollowUp, are_of};
 use crate::meeting::meeting_in;
@@ -120,8 +120,10 @@ impl Further {
         requires known { AreKnown table.now (self.now.choice.a ++ self.now.choice.b)
             self.now.follow_ups.items }
         // promise: further-operations-sights (AreFurtherSights)
-        ensures { IfOk result (λ list.
+        ensures sights { IfOk result (λ list.
             AreFurtherSights table.now self.now.choice self.now.follow_ups.items list.items) }
+        // promise: further-operations-sights
+        ensures known { IfOk result (λ list. All (IsKnownSight table.now) list.items) }
     {
         sights(alloc, table, &self.choice, self.follow_ups.as_slice())
     }

@@ -4,7 +4,7 @@ ghost use Rattle.cn_choice.specs.Canonical.{IsChoiceFor};
 ghost use Rattle.cn_choice.specs.declared.limits.TheConstants.{MOST_PROCESSES};
 ghost use Rattle.cn_table.specs.TypeTable.{TypeTable};
 ghost use Rattle.cn_further.specs.FurtherNodes.{AreKnown, further_of};
-ghost use Rattle.cn_further.specs.FurtherSights.{AreFurtherSights, HasEndsOf, IsReached, IsSight, KeepsFitting};
+ghost use Rattle.cn_further.specs.FurtherSights.{AreFurtherSights, HasEndsOf, IsKnownSight, IsReached, IsSight, KeepsFitting};
 ghost use Rattle.cn_further.specs.declared.sight.FurtherSight.{FurtherSight as Told};
 
 use crate::follow_up::FollowUp;
@@ -13,6 +13,7 @@ use crate::levels::scenes_of;
 use crate::scene::Scene;
 use crate::sight::{FurtherSight, push_new, sight_of};
 use cn_choice::{Choice, Team};
+use cn_table::laws::tables_are_valid;
 use cn_table::{Operation, Table};
 use std::alloc::{AllocError, Global};
 
@@ -86,9 +87,11 @@ pub(crate) fn sights(
     requires choice { IsChoiceFor table.now (length choice.now.a + length choice.now.b) choice.now }
     requires known { AreKnown table.now (choice.now.a ++ choice.now.b) follow_ups.now }
     requires few { length choice.now.a + length choice.now.b ≤ MOST_PROCESSES }
-    ensures { IfOk result (λ list.
+    ensures sights { IfOk result (λ list.
         AreFurtherSights table.now choice.now follow_ups.now list.items) }
+    ensures known { IfOk result (λ list. All (IsKnownSight table.now) list.items) }
 {
+    tables_are_valid(table);
     let list = operations_of(choice);
     let (state, operations, size) = (choice.state, list.as_slice(), choice.a.len());
     let (a, b) = (Team::A, Team::B);
