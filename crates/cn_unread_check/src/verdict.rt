@@ -2,7 +2,7 @@
 ghost use Rattle.std.specs.Prelude.{◌≡◌, ◌⊎◌, ◌↔◌, IfErr, IsTrue, OnOk};
 ghost use Rattle.cn_unread_cert.specs.Right.{AreInRange, IsRight};
 ghost use Rattle.cn_unread_check.specs.Bounds.{bounds_of};
-ghost use Rattle.cn_unread_check.specs.Faults.{IsFirstFault, IsUndecided};
+ghost use Rattle.cn_unread_check.specs.Faults.{ComeScenesLast, IsFirstFault, IsUndecided};
 ghost use Rattle.cn_unread_number.specs.Bounds.{HasUnreadNumber};
 
 use crate::evidence::{shows_at_least, shows_at_most};
@@ -61,6 +61,8 @@ pub fn check_unread(
     // promise: check-without-reads (IsUndecided)
     ensures passes { IsRight table.now certificate.now
         → IfErr result (IsUndecided certificate.now) }
+    // promise: check-without-reads (ComeScenesLast)
+    ensures scenes { IfErr result (ComeScenesLast table.now certificate.now) }
 {
     let (least, most) = (certificate.at_least, certificate.at_most);
     accepted_bounds_hold();
