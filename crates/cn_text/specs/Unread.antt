@@ -82,7 +82,7 @@ least_part e (Some s) = folded (signs_text e.table s)
 
 -- the rule of a type that no more processes solve with reads, if there is one
 abbrev pub with_reads_reason : Option Rule → List ℕ
-with_reads_reason None = codes " (cnum why of this table tells why)"
+with_reads_reason None = codes " (cnum why of a table of these states tells why)"
 with_reads_reason (Some rule) = codes ", since " ++ (rule_words rule ++ [])
 
 unfoldable pub with_reads_line : Option Rule → ℕ → List ℕ

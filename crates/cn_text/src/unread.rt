@@ -163,7 +163,7 @@ fn push_with_reads_reason(text: &mut String, rule: Option<Rule>) -> Result<(), A
         ≡ string_bytes text.old ++ with_reads_reason rule) }
 {
     match rule {
-        None => text.push_str(" (cnum why of this table tells why)"),
+        None => text.push_str(" (cnum why of a table of these states tells why)"),
         Some(rule) => push_pieces(text, &[", since ", rule_words(rule)]),
     }
 }
