@@ -20,7 +20,7 @@ def narrowed(head, body):
 
     def of(match):
         names = [it.strip() for it in match[2].strip("{}").split(",") if it.strip()]
-        kept = [it for it in names if re.search(rf"(?<!\w){re.escape(it.split(' as ')[-1].strip('◌'))}(?!\w)", body) or "◌" in it]
+        kept = [it for it in names if "◌" in it or re.search(rf"\b{it.split(' as ')[-1]}\b", body)]
         return f"{match[1]}{{{', '.join(kept)}}};\n" if kept else ""
 
     return IMPORT.sub(of, head)
