@@ -1,4 +1,5 @@
-//! The law that two runs that the program tells of a choice are runs of one protocol in the model.
+//! Laws of two runs that the program tells of a choice: they look the same to each protocol that
+//! takes their steps, and some protocol does.
 #![tactic(auto)]
 
 pub mod laws;
