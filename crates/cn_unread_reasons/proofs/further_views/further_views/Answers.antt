@@ -1,7 +1,7 @@
-use Rattle.std.proofs.Common.{◌≡◌, ◌∙◌, [], ◌++◌, List, All, ap, length, subst, sym}
+use Rattle.std.proofs.Common.{◌≡◌, ◌∙◌, [], ◌++◌, List, All, ap, subst}
 use Rattle.std.specs.List.{AllZip}
 use Rattle.std.proofs.lemmas.List.Elements.{All-nil}
-use Rattle.cn_choice.specs.declared.team.Team.TheVariants.{A, B}
+use Rattle.cn_choice.specs.declared.team.Team.TheVariants.{A}
 use Rattle.cn_reasons.specs.Groups.{groups, groups_of}
 use Rattle.cn_reasons.specs.Known.{IsKnownGroup}
 use Rattle.cn_reasons.specs.declared.group.ChoiceGroups.{ChoiceGroups}

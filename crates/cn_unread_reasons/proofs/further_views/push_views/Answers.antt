@@ -1,4 +1,4 @@
-use Rattle.std.proofs.Common.{List, ◌++◌, subst, rules}
+use Rattle.std.proofs.Common.{List, ◌++◌, subst}
 use Rattle.std.specs.List.{AllZip}
 use Rattle.std.proofs.lemmas.List.{take_all}
 use Rattle.std.proofs.lemmas.List.Elements.{All-push, All-same}

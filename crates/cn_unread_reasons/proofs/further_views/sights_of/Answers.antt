@@ -1,4 +1,4 @@
-use Rattle.std.proofs.Common.{◌≡◌, ℕ, List, subst, sym, true≢false, ◌∙◌, Contains, ◌↔◌}
+use Rattle.std.proofs.Common.{ℕ, List, subst, sym, true≢false, ◌∙◌, Contains, ◌↔◌}
 use Rattle.std.proofs.lemmas.List.{take_all}
 use Rattle.cn_choice.specs.declared.team.Team.{Team}
 use Rattle.cn_further.specs.declared.sight.FurtherSight.{FurtherSight}

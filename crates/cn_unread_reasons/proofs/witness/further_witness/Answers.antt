@@ -1,8 +1,6 @@
-use Rattle.std.proofs.Common.{◌≡◌, List, All, inr, refl, subst, sym}
-use Rattle.std.specs.List.{AllZip}
-use Rattle.cn_further.specs.FurtherSights.{AreFurtherSights, IsKnownSight}
+use Rattle.std.proofs.Common.{List, inr, refl, subst, sym}
+use Rattle.cn_further.specs.FurtherSights.{AreFurtherSights}
 use Rattle.cn_further.specs.declared.sight.FurtherSight.{FurtherSight}
-use Rattle.cn_unread_reasons.specs.Known.{IsKnownUnreadWitness}
 use Rattle.cn_unread_reasons.proofs.Fits.{fits_table}
 use Rattle.cn_unread_reasons.proofs.witness.further_witness.Goals as goal
 
