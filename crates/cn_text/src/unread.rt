@@ -78,7 +78,13 @@ fn push_views_part(
     ensures { OnOk result (string_bytes text.new
         ≡ string_bytes text.old ++ views_part table.now witness.now) }
 {
-    push_unread_views(alloc, text, table, &witness.choice, witness.views.as_slice())?;
+    push_unread_views(
+        alloc,
+        text,
+        table,
+        &witness.choice,
+        witness.views.as_slice(),
+    )?;
     push_pieces(
         text,
         &["  No process gets the same on both sides, so each can tell which team was first.\n"],
