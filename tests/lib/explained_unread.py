@@ -3,7 +3,7 @@ import collections
 
 from recorded import live_choices
 from table import Table
-from unread import classes, further_faults, reached_states, silent_operations
+from unread import classes, further_faults, further_sights, reached_states, silent_operations
 
 TEAMS = A, B = 0, 1
 
@@ -65,13 +65,26 @@ def witness_faults(table, witness):
     if teams != sorted(teams) or {*teams} != {A, B}:
         yield f"witness: the teams are {teams}"
     if witness["follow_ups"]:
-        yield from (f"witness: {it}" for it in further_faults(table, (start, tuple(o for o, _ in processes), tuple(teams)), further_of(table, witness)))
+        yield from (f"witness: {it}" for it in followed_faults(table, (start, tuple(o for o, _ in processes), tuple(teams)), witness))
         return
     looks = silent_operations(table)
     if [table.operations.index(it) for it in witness["looks"]] != [*looks]:
         yield f"witness: looks {witness['looks']}"
     for process, told in enumerate(witness["processes"]):
         yield from (f"witness: process {process}: {it}" for it in view_faults(table, told, gets(table, start, processes, process, looks)))
+
+
+def followed_faults(table, choice, witness):
+    """What is wrong with a witness whose processes do further operations, and with what each is told to get."""
+    further = further_of(table, witness)
+    yield from further_faults(table, choice, further)
+    found = further_sights(table, choice, further)
+    for process, told in enumerate(witness["processes"]):
+        yield from (f"process {process}: {it}" for it in view_faults(table, told, [{(got[0], got[1:]) for place, got in it if place == process} for it in found]))
+        for sight in told["a_first"] + told["b_first"]:
+            key = table.operations.index(told["operation"]), "AB".index(told["team"]), table.responses.index(sight["response"])
+            if [table.operations.index(it["operation"]) for it in sight["answers"]] != [further[key]] * (key in further):
+                yield f"process {process}: {sight} has another further operation"
 
 
 def further_of(table, witness):

@@ -409,15 +409,22 @@ def first_further(table, choices):
     return None
 
 
-def further_faults(table, witness, further):
-    """What is wrong with further operations, over each schedule of the processes by their numbers."""
-    start, operations, teams = witness
+def further_sights(table, witness, further):
+    """For each team that is first, what processes can have got that are done: (process, responses), over each schedule of the processes by
+    their numbers."""
+    start, _, teams = witness
     found, seen, left = (set(), set()), set(), [(None, start, ((),) * len(teams))]
     while left:
         scene = left.pop()
         if scene not in seen:
             seen.add(scene)
             left += further_steps(table, witness, further, scene, found)
+    return found
+
+
+def further_faults(table, witness, further):
+    """What is wrong with further operations."""
+    found = further_sights(table, witness, further)
     for process, got in found[A] & found[B]:
         yield f"process {process} ends with {got} whichever team is first"
 

@@ -790,7 +790,7 @@ describe('an explanation without reads', () => {
         const looked = { ...QUEUE.witness, looks: ['peek'], processes: [of('enq_a', 'A', sight('ok', ['peek', 'a']), sight('ok', ['peek', 'b']))] };
         has(shown({ ...QUEUE, witness: looked }), 'Then each process does peek, in this order.', 'got ok, then peek: a', 'got ok, then peek: b');
         const followed = { ...QUEUE.witness, follow_ups: [{ further: 'cas21', operation: 'cas02', response: 'no' }] };
-        has(shown({ ...QUEUE, witness: followed }), 'After cas02 with no a process does cas21.');
+        has(shown({ ...QUEUE, witness: followed }), 'After cas02 with no a process does cas21.', 'got empty');
         const merged = [{ state: 'q', class: 'q' }, { state: 'qa', class: 'qa' }, { state: 'qb', class: 'qa' }];
         const text = shown({ ...QUEUE, merged });
         has(text, 'No operations tell qb from qa, so they are one state here.');

@@ -21,9 +21,7 @@ var Cnum = globalThis.Cnum || {};
         const many = count < least ? [paragraph('why_so_many', { count })] : [];
         const further = followUps.map(it => paragraph('follow_up', it));
         if (looks.length) further.push(paragraph('looks', { looks: looks.join(', ') }));
-        // With further operations the program does not list what each process gets.
-        const table = followUps.length ? [] : [witnessTable(processes, sightText)];
-        return [...many, head('why_unread', words), ...further, ...table, paragraph('why_unread_end')];
+        return [...many, head('why_unread', words), ...further, witnessTable(processes, sightText), paragraph('why_unread_end')];
     }
 
     // How any number of processes tell it, by the signs of one team.
