@@ -530,6 +530,11 @@ describe('answers', () => {
         assert.equal(told, 'Its collision 3 is none. (cnum: check: 7 NotACollision 3)');
     });
 
+    it('choose the check of a certificate by its version', () => {
+        assert.deepEqual(Cnum.wordsOfCheck('{"version":4}'), ['check', '--without-read']);
+        for (const text of ['{"version":2}', '4', '{', 'null']) assert.deepEqual(Cnum.wordsOfCheck(text), ['check']);
+    });
+
     it('have a sentence for each flaw and each fault of a certificate', () => {
         const namesIn = schema => (schema && typeof schema === 'object' ? Object.entries(schema).flatMap(namesUnder) : []);
         const namesUnder = ([key, value]) => (['kind', 'name'].includes(key) ? value.enum || [value.const] : namesIn(value));

@@ -1056,6 +1056,7 @@ def missing_parts(use):
 def certificates(use):
     use.open()
     whole = called(["find"], TYPES["test_and_set"])[0].decode()
+    unread = '{"at_least":2,"at_most":null,"least":{"visible":[0,[0],[0]]},"most":null,"type":"test_and_set","version":4}'
     yield "the certificate is the program's", use.value("Cnum.page.certificate") == whole, ""
     drop = """((name, text) => {
         const dataTransfer = new DataTransfer();
@@ -1067,6 +1068,8 @@ def certificates(use):
         (whole.replace('"number":2', '"number":3'), "claim.json is refused. Its witness does not fit its number"),
         (whole.replace("test_and_set", "idle"), "claim.json is refused. It is a certificate of another type"),
         (whole.replace("[0,1],[2,1]", "[0,1],[1,2]"), "claim.json is refused. Its collision 0 is none. (cnum: check: 7 NotACollision 0)"),
+        (unread, "claim.json is right: it is a certificate of this table."),
+        (unread.replace(":2", ":3"), "claim.json is refused. Its evidence does not show that so many processes can agree. (cnum: check: 3 Least)"),
         ("{" * 16777217, "claim.json is refused. It is longer than any certificate. (cnum: certificate: too long)"),
         ("{", "claim.json is refused. It is no JSON, and so no certificate. (cnum: certificate: 1 NotJson)"),
     ):

@@ -670,7 +670,8 @@ var Cnum = globalThis.Cnum || {};
         async check(file) {
             if (!file) return;
             const claim = new Uint8Array(await file.arrayBuffer());
-            const answer = await this.ask(this.quick, ['check', '--as', 'json', CERTIFICATE], { [CERTIFICATE]: claim });
+            const words = Cnum.wordsOfCheck(new TextDecoder().decode(claim));
+            const answer = await this.ask(this.quick, [...words, '--as', 'json', CERTIFICATE], { [CERTIFICATE]: claim });
             if (!answer) return;
             const { name } = file;
             const { ok, fault } = answer.stdout ? JSON.parse(answer.stdout) : {};
