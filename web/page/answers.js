@@ -58,7 +58,6 @@ var Cnum = globalThis.Cnum || {};
         return Number(number) ? { name, place } : { name: words.join('_').split(':').join('') };
     };
 
-    // What an answer of the program says that is a fault, in words. `check` also tells it as a value.
     // The words that check a certificate: one without reads has a version of its own.
     Cnum.wordsOfCheck = function (text) {
         try {
@@ -68,6 +67,7 @@ var Cnum = globalThis.Cnum || {};
         }
     };
 
+    // What an answer of the program says that is a fault, in words. `check` also tells it as a value.
     Cnum.inWords = function ({ status, stderr }, fault = Cnum.faultOf(stderr)) {
         const named = `fault_${fault.name}`;
         const key = status === null ? 'fault_failed' : named in Cnum.texts ? named : 'fault_other';
