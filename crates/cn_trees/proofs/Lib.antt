@@ -1,0 +1,13 @@
+pub mod Lists
+pub mod Invariant
+pub mod Growing
+pub mod Stepping
+pub mod Values
+pub mod Counting
+pub mod Agreeing
+pub mod Paths
+pub mod Trees
+pub mod Witnesses
+pub mod Plans
+pub mod Parts
+pub mod FullTrees
