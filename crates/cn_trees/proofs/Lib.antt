@@ -1,13 +1,9 @@
-pub mod Lists
+pub mod Paths
+pub mod Places
 pub mod Invariant
 pub mod Growing
 pub mod Stepping
 pub mod Values
 pub mod Counting
 pub mod Agreeing
-pub mod Paths
-pub mod Trees
-pub mod Witnesses
-pub mod Plans
-pub mod Parts
 pub mod FullTrees

@@ -1,8 +1,4 @@
-pub mod Order
-pub mod Parting
-pub mod Plan
-pub mod Rounds
-pub mod Sound
+pub mod Consensus
+pub mod FullTrees
 pub mod Steps
 pub mod Tree
-pub mod Witness

@@ -1,8 +1,11 @@
--- Plan trees: at each node teams meet, each of one process alone or of the processes that have met
--- at a node below.
-use Rattle.std.specs.Prelude.{ℕ, zero, suc, ◌≡◌, ◌+◌, ◌-◌, max, List, [], ◌∷◌, ◌++◌, nat_lt, nat_eq, if◌then◌else◌, Bool}
-use Rattle.cn_trees.specs.Order.{after, IsAnswered}
-use Rattle.cn_trees.specs.Sound.{Place, ProtocolOfRounds, IsRun, seen}
+-- Plan trees: at each node teams meet, each of one process alone or of the processes that have met at
+-- a node below.
+-- Source: Ruppert, Determining consensus numbers, 2000: the tournament, whose nodes have two teams and
+-- one witness. Nodes with more teams and with witnesses of their own are new here.
+use Rattle.std.specs.Prelude.{ℕ, zero, suc, ◌≡◌, ◌+◌, ◌-◌, ◌<◌, max, List, [], ◌∷◌, ◌++◌, length, Bool, false, ◌&&◌, ◌||◌, nat_lt, nat_eq, if◌then◌else◌, slice_index_or}
+use Rattle.cn_table.specs.TypeTable.{TypeTable}
+use Rattle.cn_meetings.specs.Meeting.{IsSightOf, Meeting}
+use Rattle.cn_meetings.specs.Witness.{Has, IsTeamWitness, JudgesRight}
 
 -- the teams of a node, one after the other
 pub data Teams : Type 0 where
@@ -25,26 +28,31 @@ nodes_in Last = 0
 nodes_in (Alone r) = nodes_in r
 nodes_in (Meet s r) = 1 + nodes_in s + nodes_in r
 
--- the greatest number of nodes on the way of a process, with this one
-abbrev pub height : Teams → ℕ
-height Last = 0
-height (Alone r) = max 1 (height r)
-height (Meet s r) = max (1 + height s) (height r)
+-- the levels: the greatest number of nodes on the way of a process, with this one
+abbrev pub levels : Teams → ℕ
+levels Last = 0
+levels (Alone r) = max 1 (levels r)
+levels (Meet s r) = max (1 + levels s) (levels r)
 
--- the path up to this node of process p of these teams, the first of which has this number; the
--- nodes below have numbers from next on; the role is the process
-abbrev pub climb : Teams → ℕ → ℕ → ℕ → ℕ → ℕ → List Place
-climb Last node team next role p = []
-climb (Alone r) node team next role zero = record { node = node; team = team; role = role } ∷ []
-climb (Alone r) node team next role (suc p) = climb r node (team + 1) next role p
-climb (Meet s r) node team next role p =
+-- the place of a process at a node of its path: the number of the node, and its team there
+pub record Place : Type 0 where
+  pub node : ℕ
+  pub team : ℕ
+
+-- the path up to this node of process p of these teams, the first of which has this number; the nodes
+-- below have numbers from next on
+abbrev pub climb : Teams → ℕ → ℕ → ℕ → ℕ → List Place
+climb Last node team next p = []
+climb (Alone r) node team next zero = record { node = node; team = team } ∷ []
+climb (Alone r) node team next (suc p) = climb r node (team + 1) next p
+climb (Meet s r) node team next p =
     if nat_lt p (members s)
-    then climb s next 0 (next + 1) role p ++ record { node = node; team = team; role = role } ∷ []
-    else climb r node (team + 1) (next + 1 + nodes_in s) role (p - members s)
+    then climb s next 0 (next + 1) p ++ record { node = node; team = team } ∷ []
+    else climb r node (team + 1) (next + 1 + nodes_in s) (p - members s)
 
 -- the path of process p: all processes meet at the root, node 0
 abbrev pub path_in : Teams → ℕ → List Place
-path_in t p = climb t 0 0 1 p p
+path_in s p = climb s 0 0 1 p
 
 -- the team at a node of a process with this path
 abbrev pub team_on : List Place → ℕ → ℕ
@@ -52,32 +60,51 @@ team_on [] node = 0
 team_on (x ∷ path) node = if nat_eq node x.node then x.team else team_on path node
 
 abbrev pub team_in : Teams → ℕ → ℕ → ℕ
-team_in t node p = team_on (path_in t p) node
+team_in s node p = team_on (path_in s p) node
 
--- what the nodes of a plan have: the state in which the object starts; for each process of the node
--- its operation, as response and next state by state; whether it looks, and what it sees; the team
--- to which it judges its response and what it saw
-pub record Nodes : Type 0 where
-  pub start : ℕ → ℕ
-  pub act : ℕ → ℕ → ℕ → ℕ × ℕ
-  pub looks : ℕ → ℕ → Bool
-  pub view : ℕ → ℕ → ℕ → ℕ
+abbrev pub passes : List Place → ℕ → Bool
+passes [] node = false
+passes (x ∷ path) node = nat_eq node x.node || passes path node
+
+-- process p comes to the node
+abbrev pub comes_to : Teams → ℕ → ℕ → Bool
+comes_to s node p = nat_lt p (members s) && passes (path_in s p) node
+
+-- a type; the teams of the root; and for each node its meeting, and the judgements of its processes
+pub record PlanTree : Type 0 where
+  pub table : TypeTable
+  pub teams : Teams
+  pub meeting : ℕ → Meeting
   pub judge : ℕ → ℕ → ℕ → ℕ → ℕ
 
-abbrev pub protocol_of : Teams → Nodes → ProtocolOfRounds
-protocol_of t N = record {
-  start = N.start;
-  act = N.act;
-  looks = N.looks;
-  view = N.view;
-  judge = N.judge;
-  path = path_in t;
-}
+abbrev pub processes_of : PlanTree → ℕ
+processes_of T = members T.teams
 
--- every node is a witness: in every order of distinct processes of the node each of them tells from
--- its response, and from what it sees of the last state, which team began
-abbrev pub AreWitnesses : Teams → Nodes → Type 0
-AreWitnesses t N = (node side : ℕ) (order : List ℕ) (p response : ℕ)
-    → IsRun (protocol_of t N) (members t) node (team_in t node) side order
-    → IsAnswered (N.act node) (N.start node) order p response
-    → N.judge node p response (seen (protocol_of t N) node p (after (N.act node) (N.start node) order)) ≡ side
+abbrev pub path_of : PlanTree → ℕ → List Place
+path_of T p = path_in T.teams p
+
+-- place i of the path of process p, counted from its lowest node
+abbrev pub place_of : PlanTree → ℕ → ℕ → Place
+place_of T p i = slice_index_or (path_of T p) i (record { node = 0; team = 0 })
+
+-- i is a place of the path of process p
+abbrev pub IsPlace : PlanTree → ℕ → ℕ → Type 0
+IsPlace T p i = (p < processes_of T) × (i < length (path_of T p))
+
+-- at each node the processes that come to it, in their teams, are a witness
+abbrev pub AreWitnesses : PlanTree → Type 0
+AreWitnesses T = (node : ℕ)
+    → IsTeamWitness T.table (T.meeting node) (comes_to T.teams node) (team_in T.teams node)
+
+-- and they judge right
+abbrev pub IsPlanTree : PlanTree → Type 0
+IsPlanTree T = (node : ℕ) → JudgesRight T.table (T.meeting node) (comes_to T.teams node)
+    (team_in T.teams node) (T.judge node)
+
+-- the start states, the operations and the sights are those of the type
+pub record IsOfType (T : PlanTree) : Type 0 where
+  pub starts : (node : ℕ) → (T.meeting node).start < length T.table.states
+  pub operations : (node p : ℕ) → Has (comes_to T.teams node) p
+      → (T.meeting node).operation p < length T.table.operations
+  pub sights : (node p : ℕ) → Has (comes_to T.teams node) p
+      → IsSightOf T.table ((T.meeting node).sight p)

@@ -1,90 +1,65 @@
-//! Laws of rounds over plan trees. A law is a function that does nothing: its contract is the law.
-ghost use Rattle.std.specs.Prelude.{ℕ, Bool, List, nat_lt, ◌+◌, ◌≡◌, ◌≢◌, ◌↔◌, ◌<◌, ◌≤◌, ◌*◌};
-ghost use Rattle.cn_trees.specs.Sound.{ProtocolOfRounds, IsSound};
-ghost use Rattle.cn_trees.specs.Steps.{after_schedule, first_world};
-ghost use Rattle.cn_trees.specs.Rounds.{IsConsensus, IsSchedule, steps_of};
-ghost use Rattle.cn_trees.specs.Tree.{Teams, Nodes, AreWitnesses, protocol_of, members, height};
-ghost use Rattle.cn_trees.specs.Witness.{Meeting, Has, AreJoined, IsTeamWitness};
-ghost use Rattle.cn_trees.specs.Parting.{ArePart, reading, full, power, parting_nodes};
-ghost use Rattle.cn_trees.specs.Plan.{PlanNodes, IsPlan, nodes_of};
+//! Laws of plan trees. A law is a function that does nothing: its contract is the law.
+//!
+//! Everywhere `V` are the values of the processes.
+ghost use Rattle.std.specs.Prelude.{ℕ, List, ◌≡◌, ◌+◌, ◌*◌, ◌<◌, ◌≤◌, length, true, false};
+ghost use Rattle.cn_table.specs.TypeTable.{TypeTable};
+ghost use Rattle.cn_agree.specs.Consensus.{IsSchedule};
+ghost use Rattle.cn_meetings.specs.Parting.{ArePart, Parting};
+ghost use Rattle.cn_trees.specs.Consensus.{IsConsensus, steps_of};
+ghost use Rattle.cn_trees.specs.FullTrees.{full, parting_tree, power};
+ghost use Rattle.cn_trees.specs.Steps.{looks_at};
+ghost use Rattle.cn_trees.specs.Tree.{AreWitnesses, IsPlanTree, PlanTree, levels, path_of, processes_of};
 
-/// After every schedule of a sound protocol all decisions are equal, and the input of a process that
-/// has taken a step; a process has decided exactly when it has taken the steps of its path: three
-/// at each place, or four where it looks at the object.
-pub fn sound_rounds_agree<V>()
-    ensures { (P : ProtocolOfRounds) (n : ℕ) (team : ℕ → ℕ → ℕ) → IsSound P n team
-        → (inputs : ℕ → V) (schedule : List ℕ) → IsSchedule n schedule
-        → IsConsensus P n inputs schedule (after_schedule P schedule (first_world P inputs)) }
-{}
+use cn_meetings::laws::{parting_operations_are_told, witnesses_are_judged};
 
-/// The same for a plan tree whose nodes are witnesses. No process takes more than four steps for
-/// each node of the longest path.
+/// In every schedule of the processes of a plan tree, or of the first n of them, all decisions are
+/// equal, and the input of a process that has taken a step. A process has decided exactly when it has
+/// taken the steps of its path.
 pub fn plan_trees_agree<V>()
-    ensures consensus { (t : Teams) (N : Nodes) → AreWitnesses t N
-        → (inputs : ℕ → V) (schedule : List ℕ) → IsSchedule (members t) schedule
-        → IsConsensus (protocol_of t N) (members t) inputs schedule
-        (after_schedule (protocol_of t N) schedule (first_world (protocol_of t N) inputs)) }
-    ensures bound { (t : Teams) (N : Nodes) (p : ℕ) → p < members t
-        → steps_of (protocol_of t N) p ≤ 4 * height t }
+    // promise: plan-trees-agree (IsPlanTree, IsConsensus: agreement, validity, in_time)
+    ensures { (T : PlanTree) (n : ℕ) → IsPlanTree T → n ≤ processes_of T → (inputs : ℕ → V)
+        (schedule : List ℕ) → IsSchedule n schedule → IsConsensus T n inputs schedule }
 {}
 
-/// A plan reaches consensus in every schedule: a tree whose nodes are witnesses of any number of teams,
-/// with lists of what their orders tell.
-pub fn plans_agree<V>()
-    ensures { (t : Teams) (N : PlanNodes) → IsPlan t N
-        → (inputs : ℕ → V) (schedule : List ℕ) → IsSchedule (members t) schedule
-        → IsConsensus (protocol_of t (nodes_of N)) (members t) inputs schedule
-        (after_schedule (protocol_of t (nodes_of N)) schedule (first_world (protocol_of t (nodes_of N)) inputs)) }
+/// The steps of a process: three for each node of its path, or four for each if it looks at each. No
+/// path has more nodes than the tree has levels.
+pub fn steps_of_plan_trees()
+    // promise: steps-of-plan-trees (steps_of)
+    ensures three { (T : PlanTree) (p : ℕ) → ((node : ℕ) → looks_at T node p ≡ false)
+        → steps_of T p ≡ 3 * length (path_of T p) }
+    // promise: steps-of-plan-trees
+    ensures four { (T : PlanTree) (p : ℕ) → ((node : ℕ) → looks_at T node p ≡ true)
+        → steps_of T p ≡ 4 * length (path_of T p) }
+    // promise: steps-of-plan-trees
+    ensures most { (T : PlanTree) (p : ℕ) → steps_of T p ≤ 4 * length (path_of T p) }
+    // promise: steps-of-plan-trees (levels)
+    ensures levels { (T : PlanTree) (p : ℕ) → length (path_of T p) ≤ levels T.teams }
 {}
 
-/// Team witnesses of a node, of any number of teams:
-///
-/// - `joined`: they are the divisions into teams that keep joined processes together, so the finest one
-///   is that into the components of the joined processes.
-/// - `fewer_processes`: leaving out processes keeps a witness.
-/// - `fewer_teams`: merging teams keeps a witness.
-/// - `seeing_more`: so does seeing more of the state.
-/// - `one_operation`: two processes with one operation are in one team, if there is a third process.
-pub fn team_witnesses()
-    ensures joined { (M : Meeting) (processes : ℕ → Bool) (team : ℕ → ℕ)
-        → IsTeamWitness M (Has processes) team
-        ↔ ((p q : ℕ) → AreJoined M (Has processes) p q → team p ≡ team q) }
-    ensures fewer_processes { (M : Meeting) (fewer processes : ℕ → Bool) (team : ℕ → ℕ)
-        → ((p : ℕ) → Has fewer p → Has processes p) → IsTeamWitness M (Has processes) team
-        → IsTeamWitness M (Has fewer) team }
-    ensures fewer_teams { (M : Meeting) (processes : ℕ → Bool) (team merged : ℕ → ℕ)
-        → IsTeamWitness M (Has processes) team
-        → IsTeamWitness M (Has processes) (λ p. merged (team p)) }
-    ensures seeing_more { (M : Meeting) (see blur : ℕ → ℕ → ℕ) (processes : ℕ → Bool) (team : ℕ
-        → ℕ)
-        → ((j s : ℕ) → M.see j s ≡ blur j (see j s)) → IsTeamWitness M (Has processes) team
-        → IsTeamWitness (record M { see = see }) (Has processes) team }
-    ensures one_operation { (M : Meeting) (processes : ℕ → Bool) (team : ℕ → ℕ) (p q third : ℕ)
-        → IsTeamWitness M (Has processes) team → Has processes p → Has processes q
-        → Has processes third → p ≢ third → q ≢ third → ((s : ℕ) → M.act p s ≡ M.act q s)
-        → team p ≡ team q }
-{}
+/// A tree whose nodes are witnesses has judgements with which it is a plan tree, and a plan tree has
+/// no others at its nodes than witnesses.
+pub fn witnesses_make_plan_trees()
+    // promise: witnesses-make-plan-trees (AreWitnesses)
+    ensures judgement { (T : PlanTree) → AreWitnesses T
+        → (judge : ℕ → ℕ → ℕ → ℕ → ℕ) × IsPlanTree (record T { judge = judge }) }
+    // promise: witnesses-make-plan-trees
+    ensures witnesses { (T : PlanTree) → IsPlanTree T → AreWitnesses T }
+{
+    witnesses_are_judged();
+}
 
-/// Operations that part are a witness for any number of processes that do them, in the teams of the
-/// operations, by the state alone.
-pub fn parting_operations()
-    ensures { (act : ℕ → ℕ → ℕ × ℕ) (start : ℕ) (operations mark : ℕ → Bool) (side team : ℕ → ℕ)
-        → ArePart act start operations mark side team
-        → (processes : ℕ → Bool) (operation_of : ℕ → ℕ)
-        → ((p : ℕ) → Has processes p → Has operations (operation_of p))
-        → IsTeamWitness (reading act start operation_of) (Has processes) (λ p. team (operation_of p)) }
-{}
-
-/// So k operations that part, numbered from 0, have plans for every number of processes, with reads:
-/// for k to the power of h + 1 processes or fewer within 4 (h + 1) steps of each.
-pub fn parting_plans<V>()
-    ensures consensus { (act : ℕ → ℕ → ℕ × ℕ) (start k : ℕ) (mark : ℕ → Bool) (side : ℕ → ℕ)
-        → ArePart act start (λ o. nat_lt o k) mark side (λ o. o)
-        → (h : ℕ) (inputs : ℕ → V) (schedule : List ℕ) → IsSchedule (k * power k h) schedule
-        → IsConsensus (protocol_of (full k h) (parting_nodes (full k h) act start side)) (k * power k h)
-        inputs schedule
-        (after_schedule (protocol_of (full k h) (parting_nodes (full k h) act start side)) schedule
-        (first_world (protocol_of (full k h) (parting_nodes (full k h) act start side)) inputs)) }
-    ensures bound { (act : ℕ → ℕ → ℕ × ℕ) (start k : ℕ) (side : ℕ → ℕ) (h p : ℕ)
-        → steps_of (protocol_of (full k h) (parting_nodes (full k h) act start side)) p ≤ 4 * (h + 1) }
-{}
+/// Operations of k teams that part have a plan tree for every number of processes, with as many levels
+/// as the logarithm to the base k says: it has h levels for up to k to the power of h processes. New
+/// here.
+pub fn parting_operations_make_plan_trees()
+    // promise: parting-plan-trees (ArePart)
+    ensures tree { (t : TypeTable) (k h : ℕ) (w : Parting) → ArePart t k w
+        → IsPlanTree (parting_tree t (full k h) w) }
+    // promise: parting-plan-trees (full)
+    ensures processes { (t : TypeTable) (k h : ℕ) (w : Parting)
+        → processes_of (parting_tree t (full k h) w) ≡ power k (h + 1) }
+    // promise: parting-plan-trees (levels)
+    ensures levels { (k h : ℕ) → levels (full k h) ≤ h + 1 }
+{
+    parting_operations_are_told();
+}

@@ -1,5 +1,5 @@
-//! Rounds over plan trees: at each node processes of any number of teams meet, with a witness of the
-//! node's own, and a role looks at the object behind its operation only if it has to.
+//! Plan trees: protocols for consensus in which the processes meet at nodes in any number of teams,
+//! with an object for each node and a register for each of its teams.
 #![tactic(auto)]
 
 pub mod laws;

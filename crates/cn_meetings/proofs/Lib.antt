@@ -1,0 +1,5 @@
+pub mod Orders
+pub mod Tellings
+pub mod Witnesses
+pub mod Finest
+pub mod Parts

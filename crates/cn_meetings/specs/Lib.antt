@@ -1,0 +1,5 @@
+pub mod Division
+pub mod Examples
+pub mod Meeting
+pub mod Parting
+pub mod Witness

@@ -1,4 +1,0 @@
-//! Rounds over plan trees are protocols of the model of all protocols.
-#![tactic(auto)]
-
-pub mod laws;
