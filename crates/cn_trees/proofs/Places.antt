@@ -1,8 +1,10 @@
 -- The places of processes in a plan tree.
-use Rattle.std.proofs.Common.{ℕ, ◌≡◌, ◌+◌, ◌<◌, length, arith, refl, sym, Bool, true, false, ◌&&◌, nat_lt, true≢false}
+use Rattle.std.proofs.Common.{ℕ, ◌≡◌, ◌+◌, ◌-◌, ◌<◌, inl, inr, length, arith, refl, sym, ap, ◌∙◌, subst, Bool, true, false, ◌&&◌, nat_lt, true≢false}
+use Rattle.std.proofs.lemmas.Bool.{cases_lt}
 use Rattle.std.proofs.lemmas.Bool.Decides.{nat_tests}
+use Rattle.std.proofs.Math.ListN.{get_or-eq_default}
 use Rattle.cn_meetings.specs.Witness.{Has}
-use Rattle.cn_trees.specs.Tree.{IsPlace, PlanTree, Teams, comes_to, members, passes, path_in, path_of, place_of, processes_of, team_in}
+use Rattle.cn_trees.specs.Tree.{IsPlace, Place, PlanTree, Teams, comes_to, members, passes, path_in, path_of, place_of, processes_of, team_in}
 use Rattle.cn_trees.proofs.Paths.{AreFedAlike, fed_at, last_at, one_visit, passes_at, some_place, team_is}
 
 pub starts : (T : PlanTree) (p : ℕ) → p < processes_of T → 0 < length (path_of T p)
@@ -32,3 +34,18 @@ known s node p h = go (nat_lt p (members s)) refl h
     go : (b : Bool) → nat_lt p (members s) ≡ b → (b && passes (path_in s p) node) ≡ true → p < members s
     go false e h = absurd (true≢false (sym h))
     go true e h = grind (arith, nat_tests)
+
+-- a process comes to each place of its path; a place that is none stands for one at the root
+pub come_any : (T : PlanTree) (p i : ℕ) → p < processes_of T → Has (comes_to T.teams (place_of T p i).node) p
+come_any T p i lp = elim (cases_lt i (length (path_of T p))) [
+  | inl lt ↦ come T p i (lp, lt)
+  | inr ge ↦ (let root : (place_of T p i).node ≡ 0 = ap (λ (x : Place). x.node) (get_or-eq_default (path_of T p) _ ge) in
+      let last = last_place T p lp in
+      subst (λ v. Has (comes_to T.teams v) p) (last.2 ∙ sym root) (come T p last.0 last.1))
+]
+  where
+    last_place : (T : PlanTree) (p : ℕ) → p < processes_of T → (j : ℕ) × IsPlace T p j × ((place_of T p j).node ≡ 0)
+    last_place T p lp =
+        let some = starts T p lp in
+        let at : IsPlace T p (length (path_of T p) - 1) = (lp, omega arith) in
+        (length (path_of T p) - 1, at, ends T p (length (path_of T p) - 1) at (omega arith))

@@ -8,7 +8,8 @@ ghost use Rattle.cn_meetings.specs.Parting.{ArePart, Parting};
 ghost use Rattle.cn_trees.specs.Consensus.{IsConsensus, steps_of};
 ghost use Rattle.cn_trees.specs.FullTrees.{full, parting_tree, power};
 ghost use Rattle.cn_trees.specs.Steps.{looks_at};
-ghost use Rattle.cn_trees.specs.Tree.{AreWitnesses, IsPlanTree, PlanTree, levels, path_of, processes_of};
+ghost use Rattle.cn_meetings.specs.Witness.{Has};
+ghost use Rattle.cn_trees.specs.Tree.{AreWitnesses, IsPlanTree, PlanTree, comes_to, levels, path_of, processes_of, team_in};
 
 use cn_meetings::laws::{parting_operations_are_told, witnesses_are_judged};
 
@@ -49,8 +50,12 @@ pub fn witnesses_make_plan_trees()
 }
 
 /// Operations of k teams that part have a plan tree for every number of processes, with as many levels
-/// as the logarithm to the base k says: it has h levels for up to k to the power of h processes. New
-/// here.
+/// as the logarithm to the base k says, rounded up:
+///
+/// - `tree`, `teams`: a tree with k teams at each node is a plan tree;
+/// - `levels`, `processes`: with h + 1 levels it has k to the power of h + 1 processes.
+///
+/// New here.
 pub fn parting_operations_make_plan_trees()
     // promise: parting-plan-trees (ArePart)
     ensures tree { (t : TypeTable) (k h : ℕ) (w : Parting) → ArePart t k w
@@ -58,6 +63,9 @@ pub fn parting_operations_make_plan_trees()
     // promise: parting-plan-trees (full)
     ensures processes { (t : TypeTable) (k h : ℕ) (w : Parting)
         → processes_of (parting_tree t (full k h) w) ≡ power k (h + 1) }
+    // promise: parting-plan-trees (team_in)
+    ensures teams { (k h node p : ℕ) → Has (comes_to (full k h) node) p
+        → team_in (full k h) node p < k }
     // promise: parting-plan-trees (levels)
     ensures levels { (k h : ℕ) → levels (full k h) ≤ h + 1 }
 {

@@ -14,3 +14,6 @@ returns-clause-processes c = λ t k h w. (let e : h + 1 ≡ suc h = omega arith 
 
 pub returns-clause-levels : goal.returns-clause-levels
 returns-clause-levels c = λ k h. (full_are k h).2
+
+pub returns-clause-teams : goal.returns-clause-teams
+returns-clause-teams c = λ k h node p came. (let f = full_are k h in team_below k (full k h) (omega (arith, f.1)) f.3 node p came)
