@@ -3,3 +3,4 @@ pub mod Tellings
 pub mod Witnesses
 pub mod Finest
 pub mod Parts
+pub mod Examples

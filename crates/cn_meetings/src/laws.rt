@@ -2,7 +2,10 @@
 ghost use Rattle.std.specs.Prelude.{ℕ, Bool, ◌≡◌, ◌≢◌, ◌↔◌, ◌<◌};
 ghost use Rattle.cn_table.specs.TypeTable.{TypeTable};
 ghost use Rattle.cn_meetings.specs.Division.{AreJoined, IsCoarser, IsFinest};
-ghost use Rattle.cn_meetings.specs.Meeting.{Meeting, Sight, act, see};
+ghost use Rattle.cn_meetings.specs.Examples.{compare_and_swap, puts, quiet_bit, quiet_puts, sticky_bit};
+ghost use Rattle.cn_meetings.specs.Examples.{swaps};
+ghost use Rattle.cn_meetings.specs.Meeting.{Meeting, Sight, see};
+ghost use Rattle.cn_meetings.specs.Meeting.Sight.{Response, State};
 ghost use Rattle.cn_meetings.specs.Parting.{ArePart, Parting, parting_judge, parting_meeting};
 ghost use Rattle.cn_meetings.specs.Witness.{Has, IsTeamWitness, JudgesRight};
 
@@ -72,4 +75,18 @@ pub fn parting_operations_are_told()
     ensures { (t : TypeTable) (k : ℕ) (w : Parting) → ArePart t k w
         → (processes : ℕ → Bool) (team : ℕ → ℕ) → ((p : ℕ) → Has processes p → team p < k)
         → JudgesRight t (parting_meeting w team) processes team (parting_judge w team) }
+{}
+
+/// Examples of operations that part. Those of a sticky bit are told by the response. Those of a bit
+/// that answers nothing are told by a read, and by a silent operation. Those of compare-and-swap part
+/// in as many teams as it has values.
+pub fn examples_of_parting_operations()
+    // promise: examples-of-plan-trees
+    ensures sticky_bit { ArePart sticky_bit 2 puts }
+    // promise: examples-of-plan-trees
+    ensures quiet_bit { ArePart quiet_bit 2 (quiet_puts State) }
+    // promise: examples-of-plan-trees
+    ensures silent_operation { ArePart quiet_bit 2 (quiet_puts (Response 2)) }
+    // promise: examples-of-plan-trees
+    ensures compare_and_swap { (k : ℕ) → ArePart (compare_and_swap k) k (swaps k) }
 {}

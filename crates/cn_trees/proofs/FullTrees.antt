@@ -50,7 +50,7 @@ team_below k s le w node p h = go (nat_lt p (members s)) refl h
         rw same lt
 
 -- ---- full trees
-singles_are : (k : ℕ) → (members (singles k) ≡ k) × (width (singles k) ≡ k) × (levels (singles k) ≤ 1)
+pub singles_are : (k : ℕ) → (members (singles k) ≡ k) × (width (singles k) ≡ k) × (levels (singles k) ≤ 1)
 singles_are zero = (refl, refl, omega arith)
 singles_are (suc k) = let h = singles_are k in let a = h.0 in let b = h.1 in let c = h.2 in (omega arith, omega arith, omega arith)
 

@@ -7,3 +7,4 @@ pub mod Values
 pub mod Counting
 pub mod Agreeing
 pub mod FullTrees
+pub mod Examples

@@ -4,8 +4,8 @@ use Rattle.std.proofs.lemmas.Bool.{cases_lt}
 use Rattle.std.proofs.lemmas.Bool.Decides.{nat_tests}
 use Rattle.std.proofs.Math.ListN.{get_or-eq_default}
 use Rattle.cn_meetings.specs.Witness.{Has}
-use Rattle.cn_trees.specs.Tree.{IsPlace, Place, PlanTree, Teams, comes_to, members, passes, path_in, path_of, place_of, processes_of, team_in}
-use Rattle.cn_trees.proofs.Paths.{AreFedAlike, fed_at, last_at, one_visit, passes_at, some_place, team_is}
+use Rattle.cn_trees.specs.Tree.{IsPlace, Place, PlanTree, Teams, comes_to, members, nodes_of, passes, path_in, path_of, place_of, processes_of, team_in}
+use Rattle.cn_trees.proofs.Paths.{AreFedAlike, fed_at, found, last_at, one_visit, passes_at, some_place, team_is}
 
 pub starts : (T : PlanTree) (p : ℕ) → p < processes_of T → 0 < length (path_of T p)
 starts T p lp = some_place T.teams 0 0 1 p lp
@@ -49,3 +49,9 @@ come_any T p i lp = elim (cases_lt i (length (path_of T p))) [
         let some = starts T p lp in
         let at : IsPlace T p (length (path_of T p) - 1) = (lp, omega arith) in
         (length (path_of T p) - 1, at, ends T p (length (path_of T p) - 1) at (omega arith))
+
+pub node_known : (T : PlanTree) (p i : ℕ) → IsPlace T p i → (place_of T p i).node < nodes_of T
+node_known T p i at = elim (found T.teams 0 0 1 p at.0 i at.1) [
+  | inl h ↦ (let e = h.node_is in omega arith)
+  | inr h ↦ (let u = h.under in omega arith)
+]

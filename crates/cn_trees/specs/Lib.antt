@@ -1,4 +1,5 @@
 pub mod Consensus
+pub mod Examples
 pub mod FullTrees
 pub mod Steps
 pub mod Tree

@@ -80,6 +80,10 @@ pub record PlanTree : Type 0 where
 abbrev pub processes_of : PlanTree → ℕ
 processes_of T = members T.teams
 
+-- so many objects
+abbrev pub nodes_of : PlanTree → ℕ
+nodes_of T = 1 + nodes_in T.teams
+
 abbrev pub path_of : PlanTree → ℕ → List Place
 path_of T p = path_in T.teams p
 

@@ -1,17 +1,20 @@
 //! Laws of plan trees. A law is a function that does nothing: its contract is the law.
 //!
 //! Everywhere `V` are the values of the processes.
-ghost use Rattle.std.specs.Prelude.{ℕ, List, ◌≡◌, ◌+◌, ◌*◌, ◌<◌, ◌≤◌, length, true, false};
+ghost use Rattle.std.specs.Prelude.{ℕ, List, ◌≡◌, ◌+◌, ◌*◌, ◌<◌, ◌≤◌, length, true, false, Some, None};
 ghost use Rattle.cn_table.specs.TypeTable.{TypeTable};
 ghost use Rattle.cn_agree.specs.Consensus.{IsSchedule};
 ghost use Rattle.cn_meetings.specs.Parting.{ArePart, Parting};
-ghost use Rattle.cn_trees.specs.Consensus.{IsConsensus, steps_of};
+ghost use Rattle.cn_trees.specs.Consensus.{IsConsensus, decision, steps_of};
+ghost use Rattle.cn_trees.specs.Examples.{four_of_a_sticky_bit, one_compare_and_swap, third_goes_first};
 ghost use Rattle.cn_trees.specs.FullTrees.{full, parting_tree, power};
-ghost use Rattle.cn_trees.specs.Steps.{looks_at};
+ghost use Rattle.cn_trees.specs.Steps.{looks_at, world_after};
 ghost use Rattle.cn_meetings.specs.Witness.{Has};
-ghost use Rattle.cn_trees.specs.Tree.{AreWitnesses, IsPlanTree, PlanTree, comes_to, levels, path_of, processes_of, team_in};
+ghost use Rattle.cn_trees.specs.Tree.{AreWitnesses, IsPlace, IsPlanTree, PlanTree, comes_to, levels};
+ghost use Rattle.cn_trees.specs.Tree.{nodes_of, path_of, place_of, processes_of, team_in};
 
-use cn_meetings::laws::{parting_operations_are_told, witnesses_are_judged};
+use cn_meetings::laws::{examples_of_parting_operations, parting_operations_are_told};
+use cn_meetings::laws::witnesses_are_judged;
 
 /// In every schedule of the processes of a plan tree, or of the first n of them, all decisions are
 /// equal, and the input of a process that has taken a step. A process has decided exactly when it has
@@ -23,7 +26,8 @@ pub fn plan_trees_agree<V>()
 {}
 
 /// The steps of a process: three for each node of its path, or four for each if it looks at each. No
-/// path has more nodes than the tree has levels.
+/// path has more nodes than the tree has levels, and no node has another number than those of the
+/// tree.
 pub fn steps_of_plan_trees()
     // promise: steps-of-plan-trees (steps_of)
     ensures three { (T : PlanTree) (p : ℕ) → ((node : ℕ) → looks_at T node p ≡ false)
@@ -35,6 +39,9 @@ pub fn steps_of_plan_trees()
     ensures most { (T : PlanTree) (p : ℕ) → steps_of T p ≤ 4 * length (path_of T p) }
     // promise: steps-of-plan-trees (levels)
     ensures levels { (T : PlanTree) (p : ℕ) → length (path_of T p) ≤ levels T.teams }
+    // promise: steps-of-plan-trees (nodes_of)
+    ensures nodes { (T : PlanTree) (p i : ℕ) → IsPlace T p i
+        → (place_of T p i).node < nodes_of T }
 {}
 
 /// A tree whose nodes are witnesses has judgements with which it is a plan tree, and a plan tree has
@@ -70,4 +77,47 @@ pub fn parting_operations_make_plan_trees()
     ensures levels { (k h : ℕ) → levels (full k h) ≤ h + 1 }
 {
     parting_operations_are_told();
+}
+
+/// A sticky bit for four processes, as a balanced tree: three bits, and six steps of each process. In
+/// a run in which process 3 goes first, all decide its input, and not before their sixth step.
+pub fn four_processes_of_a_sticky_bit()
+    // promise: examples-of-plan-trees
+    ensures tree { IsPlanTree four_of_a_sticky_bit }
+    // promise: examples-of-plan-trees
+    ensures processes { processes_of four_of_a_sticky_bit ≡ 4 }
+    // promise: examples-of-plan-trees
+    ensures nodes { nodes_of four_of_a_sticky_bit ≡ 3 }
+    // promise: examples-of-plan-trees
+    ensures steps { (p : ℕ) → p < 4 → steps_of four_of_a_sticky_bit p ≡ 6 }
+    // promise: examples-of-plan-trees
+    ensures decided { decision (world_after four_of_a_sticky_bit (λ p. 10 + p) third_goes_first) 3
+        ≡ Some 13 }
+    // promise: examples-of-plan-trees
+    ensures follows { decision (world_after four_of_a_sticky_bit (λ p. 10 + p) third_goes_first) 0
+        ≡ Some 13 }
+    // promise: examples-of-plan-trees
+    ensures undecided { decision (world_after four_of_a_sticky_bit (λ p. 10 + p) third_goes_first) 1
+        ≡ None }
+{
+    examples_of_parting_operations();
+    parting_operations_make_plan_trees();
+    steps_of_plan_trees();
+}
+
+/// Compare-and-swap from one value to k others, as one node with k teams: one object, and three steps
+/// of each of k processes.
+pub fn one_node_of_compare_and_swap()
+    // promise: examples-of-plan-trees
+    ensures tree { (k : ℕ) → IsPlanTree (one_compare_and_swap k) }
+    // promise: examples-of-plan-trees
+    ensures processes { (k : ℕ) → processes_of (one_compare_and_swap k) ≡ k }
+    // promise: examples-of-plan-trees
+    ensures nodes { (k : ℕ) → nodes_of (one_compare_and_swap k) ≡ 1 }
+    // promise: examples-of-plan-trees
+    ensures steps { (k p : ℕ) → p < k → steps_of (one_compare_and_swap k) p ≡ 3 }
+{
+    examples_of_parting_operations();
+    parting_operations_make_plan_trees();
+    steps_of_plan_trees();
 }
