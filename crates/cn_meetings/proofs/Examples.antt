@@ -2,12 +2,14 @@
 use Rattle.std.proofs.Common.{ℕ, zero, suc, ◌≡◌, ◌+◌, ◌-◌, ◌<◌, Bool, true, false, List, [], ◌∷◌, length, get_or, refl, sym, ap, ◌∙◌, arith, nat_lt}
 use Rattle.std.specs.List.{range_with_len}
 use Rattle.std.proofs.lemmas.Bool.Decides.{nat_tests}
-use Rattle.std.proofs.lemmas.List.FromFn.{get_or-map-range_with_len, get_or-range_with_len}
-use Rattle.cn_table.specs.TypeTable.{Row, transition}
+use Rattle.std.proofs.lemmas.List.{length-replicate}
+use Rattle.std.proofs.lemmas.List.FromFn.{get_or-map-range_with_len, get_or-range_with_len, length-map-range_with_len}
+use Rattle.cn_table.specs.TypeTable.{IsClosed, Row, TypeTable, transition}
+use Rattle.cn_unread.specs.Views.{IsSilent}
 use Rattle.cn_meetings.specs.Meeting.{Sight, sees}
 use Rattle.cn_meetings.specs.Meeting.Sight.{Response, State}
 use Rattle.cn_meetings.specs.Examples.{compare_and_swap, found_by, is_set, is_swapped, puts, quiet_bit, quiet_puts, sticky_bit, swaps}
-use Rattle.cn_meetings.specs.Parting.{ArePart}
+use Rattle.cn_meetings.specs.Parting.{ArePart, IsPartingOf}
 
 -- ---- two operations over three states
 abbrev Each : (ℕ → ℕ → Type 0) → Type 0
@@ -98,3 +100,47 @@ module _ (k : ℕ) where
       later : (g q last : ℕ) → g < k → is_swapped k q ≡ true → q - 1 ≡ last - 1 → found_by g (transition (compare_and_swap k) g q).0 ≡ last - 1
       later g zero last lt m e = absurd cc
       later g (suc q) last lt m e = let l : q < k = grind (arith, nat_tests) in rw (found g (suc q) lt (omega arith)) (omega arith)
+
+-- ---- closed types
+closed_bit : (t : TypeTable) → length t.states ≡ 3 → (o : ℕ) → (transition t o 0).1 < 3 × (transition t o 1).1 < 3 × (transition t o 2).1 < 3 → (q : ℕ) → q < length t.states → (transition t o q).1 < length t.states
+closed_bit t three o h q lt = rw three (go q (rw three at lt))
+  where
+    go : (q : ℕ) → q < 3 → (transition t o q).1 < 3
+    go zero lt = h.0
+    go (suc zero) lt = h.1
+    go (suc (suc zero)) lt = h.2
+    go (suc (suc (suc q))) lt = absurd (omega arith)
+
+pub sticky_bit_closed : IsClosed sticky_bit
+sticky_bit_closed zero q lo lq = closed_bit sticky_bit refl 0 (omega arith, omega arith, omega arith) q lq
+sticky_bit_closed (suc zero) q lo lq = closed_bit sticky_bit refl 1 (omega arith, omega arith, omega arith) q lq
+sticky_bit_closed (suc (suc o)) q lo lq = absurd (omega arith)
+
+pub quiet_bit_closed : IsClosed quiet_bit
+quiet_bit_closed zero q lo lq = closed_bit quiet_bit refl 0 (omega arith, omega arith, omega arith) q lq
+quiet_bit_closed (suc zero) q lo lq = closed_bit quiet_bit refl 1 (omega arith, omega arith, omega arith) q lq
+quiet_bit_closed (suc (suc zero)) q lo lq = closed_bit quiet_bit refl 2 (omega arith, omega arith, omega arith) q lq
+quiet_bit_closed (suc (suc (suc o))) q lo lq = absurd (omega arith)
+
+pub get_is_silent : IsSilent quiet_bit 2
+get_is_silent = record { known = omega arith; same_state = λ q lt. same q lt }
+  where
+    same : (q : ℕ) → q < 3 → (transition quiet_bit 2 q).1 ≡ q
+    same zero lt = refl
+    same (suc zero) lt = refl
+    same (suc (suc zero)) lt = refl
+    same (suc (suc (suc q))) lt = absurd (omega arith)
+
+pub swaps_closed : (k : ℕ) → IsClosed (compare_and_swap k)
+swaps_closed k o q lo lq = go q (rw (length-replicate (k + 1)) at lq)
+  where
+    go : (q : ℕ) → q < k + 1 → (transition (compare_and_swap k) o q).1 < length (compare_and_swap k).states
+    go zero l = let lt : o < k = rw length-map-range_with_len at lo in rw (put k o lt, length-replicate (k + 1)) (omega arith)
+    go (suc q) l = let lt : o < k = rw length-map-range_with_len at lo in rw (kept k o q lt (omega arith), length-replicate (k + 1)) (omega arith)
+
+pub swaps_of : (k : ℕ) → IsPartingOf (compare_and_swap k) k (swaps k)
+swaps_of k = record {
+  start = rw (length-replicate (k + 1)) (omega arith);
+  operations = λ g lt. rw (length-map-range_with_len (row k) 0 k) lt;
+  sight = tt;
+}

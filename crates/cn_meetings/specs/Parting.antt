@@ -1,7 +1,7 @@
 -- Operations that part: which of them was first can be told for good. New here.
-use Rattle.std.specs.Prelude.{ℕ, ◌≡◌, ◌<◌, Bool, true}
+use Rattle.std.specs.Prelude.{ℕ, ◌≡◌, ◌<◌, Bool, true, length}
 use Rattle.cn_table.specs.TypeTable.{TypeTable, transition}
-use Rattle.cn_meetings.specs.Meeting.{Meeting, Sight, sees}
+use Rattle.cn_meetings.specs.Meeting.{IsSightOf, Meeting, Sight, sees}
 
 -- a start state; the operation of each team; how its processes look; which states are marked, and for
 -- the team of which; and the judgement by the own team, the response, and what is seen
@@ -27,6 +27,12 @@ pub record ArePart (t : TypeTable) (k : ℕ) (w : Parting) : Type 0 where
   pub later_judges : (g q last : ℕ) → g < k → w.marked q ≡ true → w.marked last ≡ true
       → w.side q ≡ w.side last
       → w.judge g (transition t (w.operation g) q).0 (sees t w.sight last) ≡ w.side last
+
+-- the start state, the operations of k teams and the sight are those of the type
+pub record IsPartingOf (t : TypeTable) (k : ℕ) (w : Parting) : Type 0 where
+  pub start : w.start < length t.states
+  pub operations : (g : ℕ) → g < k → w.operation g < length t.operations
+  pub sight : IsSightOf t w.sight
 
 -- each process applies the operation of its team
 abbrev pub parting_meeting : Parting → (ℕ → ℕ) → Meeting

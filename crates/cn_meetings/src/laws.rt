@@ -1,12 +1,13 @@
 //! Laws of meetings. A law is a function that does nothing: its contract is the law.
 ghost use Rattle.std.specs.Prelude.{ℕ, Bool, ◌≡◌, ◌≢◌, ◌↔◌, ◌<◌};
-ghost use Rattle.cn_table.specs.TypeTable.{TypeTable};
+ghost use Rattle.cn_table.specs.TypeTable.{IsClosed, TypeTable};
+ghost use Rattle.cn_unread.specs.Views.{IsSilent};
 ghost use Rattle.cn_meetings.specs.Division.{AreJoined, IsCoarser, IsFinest};
 ghost use Rattle.cn_meetings.specs.Examples.{compare_and_swap, puts, quiet_bit, quiet_puts, sticky_bit};
 ghost use Rattle.cn_meetings.specs.Examples.{swaps};
-ghost use Rattle.cn_meetings.specs.Meeting.{Meeting, Sight, see};
+ghost use Rattle.cn_meetings.specs.Meeting.{IsSightOf, Meeting, Sight, see};
 ghost use Rattle.cn_meetings.specs.Meeting.Sight.{Response, State};
-ghost use Rattle.cn_meetings.specs.Parting.{ArePart, Parting, parting_judge, parting_meeting};
+ghost use Rattle.cn_meetings.specs.Parting.{ArePart, IsPartingOf, Parting, parting_judge, parting_meeting};
 ghost use Rattle.cn_meetings.specs.Witness.{Has, IsTeamWitness, JudgesRight};
 
 /// A division is a witness exactly if joined processes are in one team. So the components of the
@@ -89,4 +90,14 @@ pub fn examples_of_parting_operations()
     ensures silent_operation { ArePart quiet_bit 2 (quiet_puts (Response 2)) }
     // promise: examples-of-plan-trees
     ensures compare_and_swap { (k : ℕ) → ArePart (compare_and_swap k) k (swaps k) }
+{}
+
+/// These examples are closed types, with their operations.
+pub fn examples_are_of_types()
+    ensures sticky_bit { IsClosed sticky_bit × IsPartingOf sticky_bit 2 puts }
+    ensures quiet_bit { (sight : Sight) → IsSightOf quiet_bit sight
+        → IsClosed quiet_bit × IsPartingOf quiet_bit 2 (quiet_puts sight) }
+    ensures silent_operation { IsSilent quiet_bit 2 }
+    ensures compare_and_swap { (k : ℕ) → IsClosed (compare_and_swap k)
+        × IsPartingOf (compare_and_swap k) k (swaps k) }
 {}

@@ -1,11 +1,10 @@
 -- Operations that part, at every node of a full tree.
 use Rattle.std.proofs.Common.{ℕ, zero, suc, ◌≡◌, ◌+◌, ◌*◌, ◌<◌, ◌≤◌, length, arith}
 use Rattle.cn_table.specs.TypeTable.{TypeTable}
-use Rattle.cn_meetings.specs.Parting.{Parting}
+use Rattle.cn_meetings.specs.Parting.{IsPartingOf, Parting}
 use Rattle.cn_meetings.specs.Witness.{Has}
 use Rattle.cn_trees.specs.FullTrees.{full, parting_tree, power}
 use Rattle.cn_trees.specs.Tree.{IsOfType, comes_to, team_in}
-use Rattle.cn_tree_laws.specs.TreeProtocol.{IsPartingOf}
 
 twice : (k x : ℕ) → 2 ≤ k → 2 * x ≤ k * x
 twice zero x le = absurd (omega arith)

@@ -1,8 +1,7 @@
 -- The protocol of a plan tree, as a protocol of the model of all protocols: one object for each node,
 -- and one register for each team of a node. It has the local states of rounds.
 -- Source: Ruppert, Determining consensus numbers, 2000, with a look in place of a read.
-use Rattle.std.specs.Prelude.{◌≡◌, ◌≢◌, ℕ, zero, suc, ◌+◌, ◌*◌, ◌<◌, Bool, length, Option, None, Some}
-use Rattle.cn_table.specs.TypeTable.{TypeTable}
+use Rattle.std.specs.Prelude.{◌≢◌, ℕ, zero, suc, ◌+◌, ◌*◌, Bool, length, Option, None, Some}
 use Rattle.cn_agree.specs.declared.local.Local.{Local as LocalOf}
 use Rattle.cn_agree.specs.declared.local.Local.TheVariants.{NotBegun, Active as At, Decided as Done}
 use Rattle.cn_agree.specs.declared.local.Stage.{Stage as StageOf}
@@ -11,9 +10,8 @@ use Rattle.cn_agree.specs.declared.local.Stage.TheVariants.{Read as ToRead, Take
 use Rattle.cn_consensus.specs.Protocol.{Action, Protocol}
 use Rattle.cn_consensus.specs.Protocol.Action.{Decide, ReadRegister, WriteRegister, ApplyOperation}
 use Rattle.cn_consensus.specs.Protocol.Action.{ReadObject}
-use Rattle.cn_meetings.specs.Meeting.{IsSightOf, Sight}
+use Rattle.cn_meetings.specs.Meeting.{Sight}
 use Rattle.cn_meetings.specs.Meeting.Sight.{Nothing, Response, State}
-use Rattle.cn_meetings.specs.Parting.{Parting}
 use Rattle.cn_meetings.specs.Witness.{Has}
 use Rattle.cn_trees.specs.Steps.{Local, Stage, behind, onward_if_found}
 use Rattle.cn_trees.specs.Steps.Local.{Active, Decided}
@@ -83,9 +81,3 @@ tree_protocol T = record {
 -- no process reads a state where it comes
 abbrev pub ReadsNoState : PlanTree → Type 0
 ReadsNoState T = (node p : ℕ) → Has (comes_to T.teams node) p → (T.meeting node).sight p ≢ State
-
--- the start state, the operations of k teams and the sight are those of the type
-pub record IsPartingOf (t : TypeTable) (k : ℕ) (w : Parting) : Type 0 where
-  pub start : w.start < length t.states
-  pub operations : (g : ℕ) → g < k → w.operation g < length t.operations
-  pub sight : IsSightOf t w.sight

@@ -8,12 +8,15 @@ ghost use Rattle.cn_consensus.specs.Types.{all_of};
 ghost use Rattle.cn_solvable.specs.Solving.{SolvesConsensus};
 ghost use Rattle.cn_unread_laws.specs.Reads.{IsWithoutReads};
 ghost use Rattle.cn_unread_laws.specs.Solving.{SolvesWithoutReads};
+ghost use Rattle.cn_meetings.specs.Examples.{compare_and_swap, quiet_bit, sticky_bit};
 ghost use Rattle.cn_meetings.specs.Meeting.Sight.{State};
-ghost use Rattle.cn_meetings.specs.Parting.{ArePart, Parting};
+ghost use Rattle.cn_meetings.specs.Parting.{ArePart, IsPartingOf, Parting};
 ghost use Rattle.cn_trees.specs.Tree.{AreWitnesses, IsOfType, IsPlanTree, PlanTree, processes_of};
-ghost use Rattle.cn_tree_laws.specs.TreeProtocol.{IsPartingOf, ReadsNoState, tree_protocol};
+ghost use Rattle.cn_tree_laws.specs.TreeProtocol.{ReadsNoState, tree_protocol};
 
-use cn_trees::laws::{parting_operations_make_plan_trees, plan_trees_agree, steps_of_plan_trees, witnesses_make_plan_trees};
+use cn_meetings::laws::{examples_are_of_types, examples_of_parting_operations};
+use cn_trees::laws::{parting_operations_make_plan_trees, plan_trees_agree, steps_of_plan_trees};
+use cn_trees::laws::witnesses_make_plan_trees;
 
 /// The protocol of every plan tree, for its processes or the first n of them, is one of its type, and
 /// solves consensus. Where no process reads a state, it reads no object.
@@ -59,4 +62,22 @@ pub fn parting_operations_are_enough()
 {
     plan_trees_are_protocols();
     parting_operations_make_plan_trees();
+}
+
+/// Examples: sticky bits solve consensus for any number of processes, with no read. So do bits that
+/// answer nothing, by a silent operation, and with reads alone; and compare-and-swap on three values or
+/// more.
+pub fn examples_solve_consensus()
+    // promise: examples-of-plan-trees
+    ensures sticky_bit { (n : ℕ) → SolvesWithoutReads sticky_bit n }
+    // promise: examples-of-plan-trees
+    ensures quiet_bit { (n : ℕ) → SolvesConsensus quiet_bit n }
+    // promise: examples-of-plan-trees
+    ensures silent_operation { (n : ℕ) → SolvesWithoutReads quiet_bit n }
+    // promise: examples-of-plan-trees
+    ensures compare_and_swap { (k n : ℕ) → 2 ≤ k → SolvesWithoutReads (compare_and_swap k) n }
+{
+    examples_are_of_types();
+    examples_of_parting_operations();
+    parting_operations_are_enough();
 }
