@@ -1,12 +1,12 @@
 -- The orders of some of the processes below n are in a list.
-use Rattle.std.proofs.Common.{ℕ, zero, suc, ◌≡◌, ◌≢◌, ◌<◌, Bool, true, false, ◌&&◌, List, [], ◌∷◌, length, slice_get, get_or, Some, refl, sym, ap, ◌∙◌, arith, inl, inr, true≢false}
+use Rattle.std.proofs.Common.{ℕ, zero, suc, ◌≡◌, ◌≢◌, ◌<◌, Bool, true, false, ◌&&◌, List, [], ◌∷◌, slice_get, Some, refl, sym, ap, ◌∙◌, arith, true≢false}
 use Rattle.std.specs.List.{AllByRecursion, filter}
 use Rattle.std.proofs.lemmas.List.Elements.{All-from_recursion}
 use Rattle.cn_choice.specs.Orders.{IsOrder}
 use Rattle.cn_choice.specs.OrdersLeft.{all_orders}
 use Rattle.cn_choice.proofs.ListLemmas.Arrangements.{Differ}
 use Rattle.cn_choice.proofs.ListLemmas.Filters.{kept, was_in}
-use Rattle.cn_choice.proofs.ListLemmas.Members.{IsIn, AllPairs-from_Pairs, each_at, each_from, place_of}
+use Rattle.cn_choice.proofs.ListLemmas.Members.{IsIn, AllPairs-from_Pairs, each_from, place_of}
 use Rattle.cn_choice.proofs.OrderLemmas.AllOrders.{differ_from, distinct_from, listed, to_listed}
 use Rattle.cn_meetings.specs.Witness.{Has, IsOrderOf}
 

@@ -1,6 +1,6 @@
 -- Operations that part are told for good.
-use Rattle.std.proofs.Common.{ℕ, zero, suc, ◌≡◌, ◌<◌, Bool, true, List, [], ◌∷◌, slice_get, Some, refl, sym, ap, ◌∙◌}
-use Rattle.cn_table.specs.TypeTable.{TypeTable, transition}
+use Rattle.std.proofs.Common.{ℕ, zero, suc, ◌≡◌, ◌<◌, Bool, true, List, [], ◌∷◌, slice_get, Some, refl, sym, ◌∙◌}
+use Rattle.cn_table.specs.TypeTable.{TypeTable}
 use Rattle.cn_proto.specs.Order.{after, answers}
 use Rattle.cn_meetings.specs.Meeting.{act, sees}
 use Rattle.cn_meetings.specs.Parting.{ArePart, Parting, parting_judge, parting_meeting}

@@ -1,20 +1,20 @@
 -- The steps along a plan tree, and those of its protocol in the model.
-use Rattle.std.proofs.Common.{◌≡◌, ℕ, zero, suc, ◌+◌, ◌*◌, ◌<◌, ◌≤◌, inl, inr, Bool, true, false, cond, nat_eq, List, [], ◌∷◌, length, Option, Some, None, refl, sym, ap, ◌∙◌, subst, arith}
+use Rattle.std.proofs.Common.{◌≡◌, ℕ, zero, suc, ◌<◌, inl, inr, Bool, true, false, cond, nat_eq, List, [], ◌∷◌, length, Option, Some, None, refl, ap, ◌∙◌, arith}
 use Rattle.std.proofs.lemmas.Bool.{cases_eq}
-use Rattle.cn_table.specs.TypeTable.{IsClosed, TypeTable, transition}
+use Rattle.cn_table.specs.TypeTable.{IsClosed, transition}
 use Rattle.cn_agree.specs.declared.local.Local.{Local as LocalOf}
 use Rattle.cn_consensus.specs.Configuration.{Configuration, after, decided_by, decision, initial, perform, put, step}
 use Rattle.cn_consensus.specs.Consensus.{IsSchedule}
 use Rattle.cn_consensus.specs.Protocol.{Protocol}
 use Rattle.cn_consensus.specs.Types.{all_of}
 use Rattle.cn_consensus.proofs.Alike.{put-alike, put-other, put-same}
-use Rattle.cn_meetings.specs.Meeting.{IsSightOf, Sight, act, sees}
+use Rattle.cn_meetings.specs.Meeting.{IsSightOf, Sight, sees}
 use Rattle.cn_meetings.specs.Meeting.Sight.{Nothing, Response, State}
 use Rattle.cn_trees.specs.Consensus as tree
 use Rattle.cn_trees.specs.Steps.{Local, Stage, World, after_action, after_schedule, after_step, after_step_from, behind, first_world, onward_if_found, world_after}
 use Rattle.cn_trees.specs.Steps.Local.{Active, Decided}
 use Rattle.cn_trees.specs.Steps.Stage.{Write, Apply, Look, Take}
-use Rattle.cn_trees.specs.Tree.{IsOfType, Place, PlanTree, path_of, place_of, processes_of}
+use Rattle.cn_trees.specs.Tree.{IsOfType, PlanTree, path_of, place_of, processes_of}
 use Rattle.cn_trees.proofs.Places.{come_any}
 use Rattle.cn_tree_laws.specs.TreeProtocol.{local_action, local_of, look_action, register_of, stage_action, tree_protocol}
 

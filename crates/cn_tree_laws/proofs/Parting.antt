@@ -1,5 +1,5 @@
 -- Operations that part, at every node of a full tree.
-use Rattle.std.proofs.Common.{ℕ, zero, suc, ◌≡◌, ◌+◌, ◌*◌, ◌<◌, ◌≤◌, length, arith}
+use Rattle.std.proofs.Common.{ℕ, zero, suc, ◌≡◌, ◌+◌, ◌*◌, ◌<◌, ◌≤◌, arith}
 use Rattle.cn_table.specs.TypeTable.{TypeTable}
 use Rattle.cn_meetings.specs.Parting.{IsPartingOf, Parting}
 use Rattle.cn_meetings.specs.Witness.{Has}

@@ -1,12 +1,12 @@
 -- The protocols of plan trees solve consensus.
-use Rattle.std.proofs.Common.{◌≡◌, ℕ, ◌*◌, ◌<◌, ◌≤◌, inl, inr, Bool, List, [], ◌∷◌, length, Option, Some, None, IsSome, Contains, refl, sym, ◌∙◌, arith, true≢false}
+use Rattle.std.proofs.Common.{◌≡◌, ℕ, ◌*◌, ◌<◌, ◌≤◌, Bool, List, [], ◌∷◌, length, Option, Some, None, IsSome, refl, sym, ◌∙◌, arith, true≢false}
 use Rattle.std.proofs.lemmas.List.Elements.{All-contains, All-from_recursion}
-use Rattle.cn_table.specs.TypeTable.{IsClosed, TypeTable}
+use Rattle.cn_table.specs.TypeTable.{IsClosed}
 use Rattle.cn_agree.specs.declared.local.Local.{Local as LocalOf}
 use Rattle.cn_agree.specs.declared.local.Local.TheVariants.{NotBegun, Active as At, Decided as Done}
 use Rattle.cn_agree.specs.declared.local.Stage.TheVariants.{Write as ToWrite, Apply as ToApply, Read as ToRead, Take as ToTake}
 use Rattle.cn_consensus.specs.Configuration.{after, decision, initial}
-use Rattle.cn_consensus.specs.Consensus.{IsConsensusProtocol, IsSchedule, occurrences}
+use Rattle.cn_consensus.specs.Consensus.{IsConsensusProtocol, IsSchedule}
 use Rattle.cn_consensus.specs.Protocol.{IsActionOf, IsProtocolOf}
 use Rattle.cn_consensus.specs.Types.{all_of}
 use Rattle.cn_unread_laws.specs.Reads.{IsWithoutReads, ReadsNoObject}
@@ -16,7 +16,7 @@ use Rattle.cn_trees.specs.Consensus as tree
 use Rattle.cn_trees.specs.Steps.{world_after}
 use Rattle.cn_trees.specs.Tree.{IsOfType, PlanTree, levels, path_of, place_of, processes_of}
 use Rattle.cn_trees.proofs.Places.{come_any}
-use Rattle.cn_tree_laws.specs.TreeProtocol.{ReadsNoState, local_action, local_of, look_action, tree_protocol}
+use Rattle.cn_tree_laws.specs.TreeProtocol.{ReadsNoState, local_action, look_action, tree_protocol}
 use Rattle.cn_tree_laws.proofs.Mirroring.{decision_is}
 
 wider : (n m : ℕ) (schedule : List ℕ) → n ≤ m → IsSchedule n schedule → IsSchedule m schedule

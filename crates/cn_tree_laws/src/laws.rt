@@ -15,8 +15,10 @@ ghost use Rattle.cn_trees.specs.Tree.{AreWitnesses, IsOfType, IsPlanTree, PlanTr
 ghost use Rattle.cn_tree_laws.specs.TreeProtocol.{ReadsNoState, tree_protocol};
 
 use cn_meetings::laws::{examples_are_of_types, examples_of_parting_operations};
-use cn_trees::laws::{parting_operations_make_plan_trees, plan_trees_agree, steps_of_plan_trees};
-use cn_trees::laws::witnesses_make_plan_trees;
+use cn_trees::laws::{
+    parting_operations_make_plan_trees, plan_trees_agree, steps_of_plan_trees,
+    witnesses_make_plan_trees,
+};
 
 /// The protocol of every plan tree, for its processes or the first n of them, is one of its type, and
 /// solves consensus. Where no process reads a state, it reads no object.

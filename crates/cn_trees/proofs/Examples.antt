@@ -1,5 +1,5 @@
 -- The paths of the examples.
-use Rattle.std.proofs.Common.{ℕ, zero, suc, ◌≡◌, ◌+◌, ◌<◌, List, [], ◌∷◌, length, refl, arith}
+use Rattle.std.proofs.Common.{ℕ, zero, suc, ◌≡◌, ◌+◌, ◌<◌, length, refl, arith}
 use Rattle.cn_trees.specs.FullTrees.{full, singles}
 use Rattle.cn_trees.specs.Tree.{climb, nodes_in, path_in}
 

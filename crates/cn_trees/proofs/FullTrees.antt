@@ -5,7 +5,7 @@ use Rattle.cn_meetings.specs.Witness.{Has}
 use Rattle.cn_trees.specs.FullTrees.{copies, full, power, singles}
 use Rattle.cn_trees.specs.Tree.{Place, Teams, climb, comes_to, levels, members, nodes_in, passes, path_in, team_in}
 use Rattle.cn_trees.specs.Tree.Teams.{Last, Alone, Meet}
-use Rattle.cn_trees.proofs.Paths.{below, beside, meet_cases, one_visit, place_at, stop, stop_push, team_is, top}
+use Rattle.cn_trees.proofs.Paths.{below, meet_cases, one_visit, place_at, stop, stop_push, team_is, top}
 
 -- the number of teams
 abbrev pub width : Teams → ℕ

@@ -2,7 +2,7 @@
 use Rattle.std.proofs.Common.{ℕ, zero, suc, ◌≡◌, ◌⊎◌, inl, inr, Bool, true, false, ◌+◌, ◌-◌, ◌<◌, ◌≤◌, max, List, [], ◌∷◌, ◌++◌, length, slice_index_or, refl, sym, ap, ◌∙◌, arith, nat_lt, nat_eq, length-append, if◌then◌else◌, ◌||◌, true≢false}
 use Rattle.std.proofs.lemmas.Bool.Decides.{nat_tests}
 use Rattle.std.proofs.lemmas.List.{get_or_append_left}
-use Rattle.cn_trees.specs.Tree.{Place, Teams, members, nodes_in, levels, climb, passes, path_in, team_on}
+use Rattle.cn_trees.specs.Tree.{Place, Teams, members, nodes_in, levels, climb, passes, team_on}
 use Rattle.cn_trees.specs.Tree.Teams.{Last, Alone, Meet}
 
 -- place i of a path

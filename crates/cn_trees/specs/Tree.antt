@@ -2,7 +2,7 @@
 -- a node below.
 -- Source: Ruppert, Determining consensus numbers, 2000: the tournament, whose nodes have two teams and
 -- one witness. Nodes with more teams and with witnesses of their own are new here.
-use Rattle.std.specs.Prelude.{ℕ, zero, suc, ◌≡◌, ◌+◌, ◌-◌, ◌<◌, max, List, [], ◌∷◌, ◌++◌, length, Bool, false, ◌&&◌, ◌||◌, nat_lt, nat_eq, if◌then◌else◌, slice_index_or}
+use Rattle.std.specs.Prelude.{ℕ, zero, suc, ◌+◌, ◌-◌, ◌<◌, max, List, [], ◌∷◌, ◌++◌, length, Bool, false, ◌&&◌, ◌||◌, nat_lt, nat_eq, if◌then◌else◌, slice_index_or}
 use Rattle.cn_table.specs.TypeTable.{TypeTable}
 use Rattle.cn_meetings.specs.Meeting.{IsSightOf, Meeting}
 use Rattle.cn_meetings.specs.Witness.{Has, IsTeamWitness, JudgesRight}

@@ -13,8 +13,9 @@ ghost use Rattle.cn_meetings.specs.Witness.{Has};
 ghost use Rattle.cn_trees.specs.Tree.{AreWitnesses, IsPlace, IsPlanTree, PlanTree, comes_to, levels};
 ghost use Rattle.cn_trees.specs.Tree.{nodes_of, path_of, place_of, processes_of, team_in};
 
-use cn_meetings::laws::{examples_of_parting_operations, parting_operations_are_told};
-use cn_meetings::laws::witnesses_are_judged;
+use cn_meetings::laws::{
+    examples_of_parting_operations, parting_operations_are_told, witnesses_are_judged,
+};
 
 /// In every schedule of the processes of a plan tree, or of the first n of them, all decisions are
 /// equal, and the input of a process that has taken a step. A process has decided exactly when it has

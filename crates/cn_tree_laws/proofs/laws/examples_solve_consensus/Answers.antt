@@ -1,6 +1,5 @@
 use Rattle.std.proofs.Common.{ℕ, ◌≡◌, arith}
 use Rattle.cn_meetings.specs.Examples.{compare_and_swap, puts, quiet_bit, quiet_puts, sticky_bit, swaps}
-use Rattle.cn_meetings.specs.Meeting.{Sight}
 use Rattle.cn_meetings.specs.Meeting.Sight.{Nothing, Response, State}
 use Rattle.cn_tree_laws.proofs.laws.examples_solve_consensus.Goals as goal
 

@@ -1,4 +1,4 @@
-use Rattle.std.proofs.Common.{ℕ, ◌≡◌, ◌≤◌, sym, subst}
+use Rattle.std.proofs.Common.{ℕ, ◌≤◌, sym, subst}
 use Rattle.cn_trees.specs.FullTrees.{full, parting_tree}
 use Rattle.cn_trees.specs.Tree.{processes_of}
 use Rattle.cn_tree_laws.specs.TreeProtocol.{tree_protocol}

@@ -1,4 +1,4 @@
-use Rattle.std.proofs.Common.{ℕ, ◌≡◌, ◌*◌, refl, ap, ◌∙◌}
+use Rattle.std.proofs.Common.{ℕ, ◌*◌, refl, ap, ◌∙◌}
 use Rattle.cn_meetings.specs.Examples.{puts, sticky_bit}
 use Rattle.cn_trees.specs.Examples.{four_of_a_sticky_bit}
 use Rattle.cn_trees.proofs.Examples.{path_of_four}

@@ -1,4 +1,4 @@
-use Rattle.std.proofs.Common.{ℕ, ◌≡◌, ◌+◌, ◌*◌, refl, ap, ◌∙◌, arith}
+use Rattle.std.proofs.Common.{ℕ, ◌+◌, ◌*◌, refl, ap, ◌∙◌}
 use Rattle.cn_meetings.specs.Examples.{compare_and_swap, swaps}
 use Rattle.cn_trees.specs.Examples.{one_compare_and_swap}
 use Rattle.cn_trees.proofs.Examples.{no_node_below, one_place_each}

@@ -1,4 +1,4 @@
-use Rattle.std.proofs.Common.{ℕ, suc, ◌≡◌, ◌+◌, arith}
+use Rattle.std.proofs.Common.{suc, ◌≡◌, ◌+◌, arith}
 use Rattle.cn_trees.specs.FullTrees.{full}
 use Rattle.cn_trees.specs.Tree.{comes_to, team_in}
 use Rattle.cn_trees.proofs.FullTrees.{full_are, team_below}

@@ -1,5 +1,3 @@
-use Rattle.std.proofs.Common.{ℕ, ◌<◌, arith}
-use Rattle.cn_meetings.specs.Witness.{Has}
 use Rattle.cn_trees.specs.Tree.{comes_to, processes_of, team_in}
 use Rattle.cn_trees.proofs.Places.{known}
 use Rattle.cn_trees.proofs.laws.witnesses_make_plan_trees.Goals as goal
