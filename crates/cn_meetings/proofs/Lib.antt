@@ -4,3 +4,4 @@ pub mod Witnesses
 pub mod Finest
 pub mod Parts
 pub mod Examples
+pub mod Renaming

@@ -16,7 +16,7 @@ order_tail processes p order is = record {
   members = λ k q e. is.members (suc k) q e;
 }
 
-order_apart : (processes : ℕ → Bool) (p : ℕ) (order : List ℕ) → IsOrderOf processes (p ∷ order) → (q : ℕ) → IsIn q order → p ≢ q
+pub order_apart : (processes : ℕ → Bool) (p : ℕ) (order : List ℕ) → IsOrderOf processes (p ∷ order) → (q : ℕ) → IsIn q order → p ≢ q
 order_apart processes p order is q i =
     let at = place_of q order 0 i in
     let l = at.1 in
@@ -27,7 +27,7 @@ differ processes [] is = tt
 differ processes (p ∷ order) is =
     (each_from (λ q. p ≢ q) order (order_apart processes p order is), differ processes order (order_tail processes p order is))
 
-below : (processes : ℕ → Bool) (n : ℕ) → ((p : ℕ) → Has processes p → p < n) → (order : List ℕ) → IsOrderOf processes order → AllByRecursion (λ p. p < n) order
+pub below : (processes : ℕ → Bool) (n : ℕ) → ((p : ℕ) → Has processes p → p < n) → (order : List ℕ) → IsOrderOf processes order → AllByRecursion (λ p. p < n) order
 below processes n few [] is = tt
 below processes n few (p ∷ order) is = (few p (is.members 0 p refl), below processes n few order (order_tail processes p order is))
 

@@ -1,3 +1,4 @@
+pub mod Choices
 pub mod Division
 pub mod Examples
 pub mod Meeting

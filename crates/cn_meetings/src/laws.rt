@@ -1,7 +1,10 @@
 //! Laws of meetings. A law is a function that does nothing: its contract is the law.
 ghost use Rattle.std.specs.Prelude.{ℕ, Bool, ◌≡◌, ◌≢◌, ◌↔◌, ◌<◌};
 ghost use Rattle.cn_table.specs.TypeTable.{IsClosed, TypeTable};
+ghost use Rattle.cn_choice.specs.Canonical.{Choice, raw_choice_of};
+ghost use Rattle.cn_choice.specs.Discerning.{IsWitness};
 ghost use Rattle.cn_unread.specs.Views.{IsSilent};
+ghost use Rattle.cn_meetings.specs.Choices.{choice_meeting, choice_processes, choice_team, renamed};
 ghost use Rattle.cn_meetings.specs.Division.{AreJoined, IsCoarser, IsFinest};
 ghost use Rattle.cn_meetings.specs.Examples.{compare_and_swap, puts, quiet_bit, quiet_puts, sticky_bit};
 ghost use Rattle.cn_meetings.specs.Examples.{swaps};
@@ -9,6 +12,8 @@ ghost use Rattle.cn_meetings.specs.Meeting.{IsSightOf, Meeting, Sight, see};
 ghost use Rattle.cn_meetings.specs.Meeting.Sight.{Response, State};
 ghost use Rattle.cn_meetings.specs.Parting.{ArePart, IsPartingOf, Parting, parting_judge, parting_meeting};
 ghost use Rattle.cn_meetings.specs.Witness.{Has, IsTeamWitness, JudgesRight};
+
+use cn_proto::laws::tournaments_are_sound;
 
 /// A division is a witness exactly if joined processes are in one team. So the components of the
 /// joined processes are a finest division, and the witnesses are the divisions that are coarser. New
@@ -46,7 +51,8 @@ pub fn witnesses_are_judged()
 /// - `fewer_processes`: leaving out processes keeps a witness;
 /// - `fewer_teams`: so does merging teams;
 /// - `seeing_more`: and so does seeing more of the state;
-/// - `one_operation`: two processes with one operation are in one team, if there is a third process.
+/// - `one_operation`: two processes with one operation are in one team, if there is a third process;
+/// - `other_names`: other processes with the same operations and sights are a witness too.
 pub fn witnesses_are_kept()
     // promise: kept-witnesses
     ensures fewer_processes { (t : TypeTable) (M : Meeting) (fewer processes : ℕ → Bool)
@@ -67,7 +73,22 @@ pub fn witnesses_are_kept()
         (p q third : ℕ) → IsTeamWitness t M processes team → Has processes p
         → Has processes q → Has processes third → p ≢ third → q ≢ third
         → M.operation p ≡ M.operation q → team p ≡ team q }
+    // promise: kept-witnesses (renamed)
+    ensures other_names { (t : TypeTable) (M : Meeting) (processes others : ℕ → Bool)
+        (role team : ℕ → ℕ) → ((p : ℕ) → Has others p → Has processes (role p))
+        → ((p q : ℕ) → Has others p → Has others q → role p ≡ role q → p ≡ q)
+        → IsTeamWitness t M processes team
+        → IsTeamWitness t (renamed role M) others (λ p. team (role p)) }
 {}
+
+/// The witnesses of choices (Ruppert, 2000) are those of two teams, with a read of each process.
+pub fn witnesses_of_choices()
+    // promise: witnesses-of-choices (IsWitness, IsTeamWitness)
+    ensures { (t : TypeTable) (c : Choice) → IsWitness t (raw_choice_of c)
+        → IsTeamWitness t (choice_meeting c) (choice_processes c) (choice_team c) }
+{
+    tournaments_are_sound();
+}
 
 /// Operations that part make a witness for any number of processes that apply them: each is in the
 /// team of its operation, and judges right. New here.
