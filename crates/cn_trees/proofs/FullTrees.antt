@@ -5,6 +5,7 @@ use Rattle.cn_meetings.specs.Witness.{Has}
 use Rattle.cn_trees.specs.FullTrees.{copies, full, power, singles}
 use Rattle.cn_trees.specs.Tree.{Place, Teams, climb, comes_to, levels, members, nodes_in, passes, path_in, team_in}
 use Rattle.cn_trees.specs.Tree.Teams.{Last, Alone, Meet}
+use Rattle.cn_trees.proofs.Places.{came}
 use Rattle.cn_trees.proofs.Paths.{below, meet_cases, one_visit, place_at, stop, stop_push, team_is, top}
 
 -- the number of teams
@@ -37,17 +38,7 @@ few_teams k (Meet s r) node team next p le w lp i li =
 
 -- so each process that comes to a node is in one of k teams there
 pub team_below : (k : ℕ) (s : Teams) → width s ≤ k → Within k s → (node p : ℕ) → Has (comes_to s node) p → team_in s node p < k
-team_below k s le w node p h = go (nat_lt p (members s)) refl h
-  where
-    go : (b : Bool) → nat_lt p (members s) ≡ b → (b && passes (path_in s p) node) ≡ true → team_in s node p < k
-    go false e h = absurd (true≢false (sym h))
-    go true e h =
-        let lp : p < members s = grind (arith, nat_tests) in
-        let at = place_at (path_in s p) node h in
-        let is : team_in s (stop (path_in s p) at.0).node p ≡ (stop (path_in s p) at.0).team = team_is (path_in s p) at.0 at.1 (one_visit s 0 0 1 p (omega arith) lp) in
-        let lt : (stop (path_in s p) at.0).team < k = few_teams k s 0 0 1 p (omega arith) w lp at.0 at.1 in
-        let same : team_in s node p ≡ (stop (path_in s p) at.0).team = ap (λ v. team_in s v p) (sym at.2) ∙ is in
-        rw same lt
+team_below k s le w node p h = let c = came s node p h in rw c.team_there (few_teams k s 0 0 1 p (omega arith) w c.known c.at c.inside)
 
 -- ---- full trees
 pub singles_are : (k : ℕ) → (members (singles k) ≡ k) × (width (singles k) ≡ k) × (levels (singles k) ≤ 1)

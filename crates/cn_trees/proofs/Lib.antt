@@ -8,3 +8,5 @@ pub mod Counting
 pub mod Agreeing
 pub mod FullTrees
 pub mod Examples
+pub mod Seats
+pub mod Tournaments

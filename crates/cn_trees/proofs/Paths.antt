@@ -92,7 +92,7 @@ pub last_at : (t : Teams) (node team next p i : ℕ) → p < members t → i + 1
 last_at t node team next p i lp e = elim (found t node team next p lp i (omega arith)) [ inl h ↦ h.node_is | inr h ↦ absurd (let l = h.early in omega arith) ]
 
 -- the nodes of the first teams have numbers from next on
-from_next : (s : Teams) (next p : ℕ) → p < members s → (i : ℕ) → i < length (below s next p) → (next ≤ (stop (below s next p) i).node) × ((stop (below s next p) i).node < next + 1 + nodes_in s)
+pub from_next : (s : Teams) (next p : ℕ) → p < members s → (i : ℕ) → i < length (below s next p) → (next ≤ (stop (below s next p) i).node) × ((stop (below s next p) i).node < next + 1 + nodes_in s)
 from_next s next p lp i li = elim (found s next 0 (next + 1) p lp i li) [
   | inl h ↦ (let e = h.node_is in (omega arith, omega arith))
   | inr h ↦ (let f = h.from in let u = h.under in (omega arith, omega arith))
@@ -175,10 +175,10 @@ fed_push s node team next p q ln lp lq fed i j li lj e f = elim (stop_push (belo
 ]
 
 -- the places of the first team, at a node and below it, are none of those of the further teams
-abbrev OfFirst : ℕ → ℕ → ℕ → ℕ → Place → Type 0
+abbrev pub OfFirst : ℕ → ℕ → ℕ → ℕ → Place → Type 0
 OfFirst node team next limit x = ((x.node ≡ node) × (x.team ≡ team)) ⊎ ((next ≤ x.node) × (x.node < limit))
 
-apart : (node team next bound limit : ℕ) (ys : List Place) (j : ℕ) (x : Place) → node < next → OfFirst node team next limit x → next ≤ limit → AreAt node (team + 1) limit bound ys → j < length ys
+pub apart : (node team next bound limit : ℕ) (ys : List Place) (j : ℕ) (x : Place) → node < next → OfFirst node team next limit x → next ≤ limit → AreAt node (team + 1) limit bound ys → j < length ys
     → x.node ≡ (stop ys j).node → x.team ≡ (stop ys j).team → ⊥
 apart node team next bound limit ys j x ln first ll at lj e t = go (stop ys j) first (at j lj) e t
   where
@@ -188,11 +188,18 @@ apart node team next bound limit ys j x ln first ll at lj e t = go (stop ys j) f
     go y (inr h) (inl g) e t = let a = h.0 in let b = g.node_is in omega arith
     go y (inr h) (inr g) e t = let a = h.1 in let b = g.from in omega arith
 
-of_first : (s : Teams) (node team next p i : ℕ) → p < members s → i < length (below s next p ++ top node team ∷ []) → OfFirst node team next (next + 1 + nodes_in s) (stop (below s next p ++ top node team ∷ []) i)
+pub of_first : (s : Teams) (node team next p i : ℕ) → p < members s → i < length (below s next p ++ top node team ∷ []) → OfFirst node team next (next + 1 + nodes_in s) (stop (below s next p ++ top node team ∷ []) i)
 of_first s node team next p i lp li = elim (stop_push (below s next p) (top node team) i li) [
   | inl a ↦ inr (rw a.1 (from_next s next p lp i a.0))
   | inr a ↦ inl (rw a.1 (refl, refl))
 ]
+
+-- so no process of the first teams meets one of the further teams in its team
+pub clash : (s r : Teams) (node team next : ℕ) → node < next → (p q : ℕ) → p < members s → q - members s < members r → (i j : ℕ) → i < length (below s next p ++ top node team ∷ []) → j < length (beside s r node team next q)
+    → (stop (below s next p ++ top node team ∷ []) i).node ≡ (stop (beside s r node team next q) j).node → (stop (below s next p ++ top node team ∷ []) i).team ≡ (stop (beside s r node team next q) j).team → ⊥
+clash s r node team next ln p q ip lq i j li lj e f =
+    apart node team next (next + 1 + nodes_in s + nodes_in r) (next + 1 + nodes_in s) (beside s r node team next q) j (stop (below s next p ++ top node team ∷ []) i) ln (of_first s node team next p i ip li) (omega arith)
+    (found r node (team + 1) (next + 1 + nodes_in s) (q - members s) lq) lj e f
 
 -- a team is one process alone, or all its processes come up from one node
 pub fed_at : (t : Teams) (node team next p q : ℕ) → node < next → p < members t → q < members t → Fed (climb t node team next p) p (climb t node team next q) q
@@ -212,17 +219,11 @@ fed_at (Meet s r) node team next p q ln lp lq i j li lj e f =
     meet_cases (λ xs. Fed xs p (climb (Meet s r) node team next q) q) s r node team next p
     (λ ip. meet_cases (λ ys. Fed (below s next p ++ top node team ∷ []) p ys q) s r node team next q
     (λ iq. fed_push s node team next p q ln ip iq (fed_at s next 0 (next + 1) p q (omega arith) ip iq))
-    (λ oq i j li lj e f. absurd (clash p q ip (omega arith) i j li lj e f)))
+    (λ oq i j li lj e f. absurd (clash s r node team next ln p q ip (omega arith) i j li lj e f)))
     (λ op. meet_cases (λ ys. Fed (beside s r node team next p) p ys q) s r node team next q
-    (λ iq i j li lj e f. absurd (clash q p iq (omega arith) j i lj li (sym e) (sym f)))
+    (λ iq i j li lj e f. absurd (clash s r node team next ln q p iq (omega arith) j i lj li (sym e) (sym f)))
     (λ oq. fed_map (beside s r node team next p) (beside s r node team next q) (p - members s) (q - members s) p q (λ h. omega arith)
     (fed_at r node (team + 1) (next + 1 + nodes_in s) (p - members s) (q - members s) (omega arith) (omega arith) (omega arith)))) i j li lj e f
-  where
-    clash : (p q : ℕ) → p < members s → q - members s < members r → (i j : ℕ) → i < length (below s next p ++ top node team ∷ []) → j < length (beside s r node team next q)
-        → (stop (below s next p ++ top node team ∷ []) i).node ≡ (stop (beside s r node team next q) j).node → (stop (below s next p ++ top node team ∷ []) i).team ≡ (stop (beside s r node team next q) j).team → ⊥
-    clash p q ip lq i j li lj e f =
-        apart node team next (next + 1 + nodes_in s + nodes_in r) (next + 1 + nodes_in s) (beside s r node team next q) j (stop (below s next p ++ top node team ∷ []) i) ln (of_first s node team next p i ip li) (omega arith)
-        (found r node (team + 1) (next + 1 + nodes_in s) (q - members s) lq) lj e f
 
 -- ---- the team of a process at a node, and whether it comes there
 -- the first place at a node is the only one

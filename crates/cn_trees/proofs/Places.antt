@@ -5,7 +5,7 @@ use Rattle.std.proofs.lemmas.Bool.Decides.{nat_tests}
 use Rattle.std.proofs.Math.ListN.{get_or-eq_default}
 use Rattle.cn_meetings.specs.Witness.{Has}
 use Rattle.cn_trees.specs.Tree.{IsPlace, Place, PlanTree, Teams, comes_to, members, nodes_of, passes, path_in, path_of, place_of, processes_of, team_in}
-use Rattle.cn_trees.proofs.Paths.{AreFedAlike, fed_at, found, last_at, one_visit, passes_at, some_place, team_is}
+use Rattle.cn_trees.proofs.Paths.{AreFedAlike, fed_at, found, last_at, one_visit, passes_at, place_at, some_place, stop, team_is}
 
 pub starts : (T : PlanTree) (p : ℕ) → p < processes_of T → 0 < length (path_of T p)
 starts T p lp = some_place T.teams 0 0 1 p lp
@@ -55,3 +55,27 @@ node_known T p i at = elim (found T.teams 0 0 1 p at.0 i at.1) [
   | inl h ↦ (let e = h.node_is in omega arith)
   | inr h ↦ (let u = h.under in omega arith)
 ]
+
+-- a process that comes to a node has a place there, in its team
+pub record Came (s : Teams) (node p : ℕ) : Type 0 where
+  pub known : p < members s
+  pub at : ℕ
+  pub inside : at < length (path_in s p)
+  pub node_is : (stop (path_in s p) at).node ≡ node
+  pub team_there : team_in s node p ≡ (stop (path_in s p) at).team
+
+pub came : (s : Teams) (node p : ℕ) → Has (comes_to s node) p → Came s node p
+came s node p h =
+    let lp = known s node p h in
+    let at = place_at (path_in s p) node (passing (nat_lt p (members s)) h) in
+    record {
+      known = lp;
+      at = at.0;
+      inside = at.1;
+      node_is = at.2;
+      team_there = ap (λ v. team_in s v p) (sym at.2) ∙ team_is (path_in s p) at.0 at.1 (one_visit s 0 0 1 p (omega arith) lp);
+    }
+  where
+    passing : (b : Bool) → (b && passes (path_in s p) node) ≡ true → passes (path_in s p) node ≡ true
+    passing false e = absurd (true≢false (sym e))
+    passing true e = e

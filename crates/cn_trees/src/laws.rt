@@ -1,20 +1,25 @@
 //! Laws of plan trees. A law is a function that does nothing: its contract is the law.
 //!
 //! Everywhere `V` are the values of the processes.
-ghost use Rattle.std.specs.Prelude.{ℕ, List, ◌≡◌, ◌+◌, ◌*◌, ◌<◌, ◌≤◌, length, true, false, Some, None};
+ghost use Rattle.std.specs.Prelude.{ℕ, List, ◌≡◌, Bool, ◌+◌, ◌-◌, ◌*◌, ◌<◌, ◌≤◌, length, true, false, Some, None};
 ghost use Rattle.cn_table.specs.TypeTable.{TypeTable};
 ghost use Rattle.cn_agree.specs.Consensus.{IsSchedule};
+ghost use Rattle.cn_choice.specs.Canonical.{Choice, raw_choice_of};
+ghost use Rattle.cn_choice.specs.Discerning.{IsWitness};
+ghost use Rattle.cn_meetings.specs.Meeting.{Meeting};
 ghost use Rattle.cn_meetings.specs.Parting.{ArePart, Parting};
 ghost use Rattle.cn_trees.specs.Consensus.{IsConsensus, decision, steps_of};
 ghost use Rattle.cn_trees.specs.Examples.{four_of_a_sticky_bit, one_compare_and_swap, third_goes_first};
 ghost use Rattle.cn_trees.specs.FullTrees.{full, parting_tree, power};
+ghost use Rattle.cn_trees.specs.Seats.{Fits, HasRoles, seated_tree, tournament_teams, tournament_tree};
 ghost use Rattle.cn_trees.specs.Steps.{looks_at, world_after};
-ghost use Rattle.cn_meetings.specs.Witness.{Has};
-ghost use Rattle.cn_trees.specs.Tree.{AreWitnesses, IsPlace, IsPlanTree, PlanTree, comes_to, levels};
+ghost use Rattle.cn_meetings.specs.Witness.{Has, IsTeamWitness};
+ghost use Rattle.cn_trees.specs.Tree.{AreWitnesses, IsPlace, IsPlanTree, PlanTree, Teams, comes_to, levels};
 ghost use Rattle.cn_trees.specs.Tree.{nodes_of, path_of, place_of, processes_of, team_in};
 
 use cn_meetings::laws::{
     examples_of_parting_operations, parting_operations_are_told, witnesses_are_judged,
+    witnesses_are_kept, witnesses_of_choices,
 };
 
 /// In every schedule of the processes of a plan tree, or of the first n of them, all decisions are
@@ -78,6 +83,30 @@ pub fn parting_operations_make_plan_trees()
     ensures levels { (k h : ℕ) → levels (full k h) ≤ h + 1 }
 {
     parting_operations_are_told();
+}
+
+/// One witness serves all nodes of a tree whose teams fit it: at each node each process takes a role
+/// of its team. So the tournament of a witness of two teams (Ruppert, 2000) is a tree of witnesses:
+///
+/// - `one_witness`: a tree with one meeting at all nodes;
+/// - `tournament`: the tournament of the witness of a choice;
+/// - `processes`, `levels`: it has all processes of the choice, and fewer levels than processes.
+pub fn tournaments_are_trees_of_witnesses()
+    // promise: tournaments-are-plan-trees (Fits)
+    ensures one_witness { (t : TypeTable) (s : Teams) (M : Meeting) (processes : ℕ → Bool)
+        (team room : ℕ → ℕ) (role : ℕ → ℕ → ℕ) → HasRoles processes team room role
+        → Fits room 0 s → IsTeamWitness t M processes team → AreWitnesses (seated_tree t s M role) }
+    // promise: tournaments-are-plan-trees (IsWitness)
+    ensures tournament { (t : TypeTable) (c : Choice) → 1 ≤ length c.a → 1 ≤ length c.b
+        → IsWitness t (raw_choice_of c) → AreWitnesses (tournament_tree t c) }
+    // promise: tournaments-are-plan-trees
+    ensures processes { (t : TypeTable) (c : Choice) → 1 ≤ length c.a → 1 ≤ length c.b
+        → processes_of (tournament_tree t c) ≡ length c.a + length c.b }
+    // promise: tournaments-are-plan-trees (tournament_teams)
+    ensures levels { (a b : ℕ) → 1 ≤ a → 1 ≤ b → levels (tournament_teams a b) ≤ a + b - 1 }
+{
+    witnesses_are_kept();
+    witnesses_of_choices();
 }
 
 /// A sticky bit for four processes, as a balanced tree: three bits, and six steps of each process. In
