@@ -1,17 +1,17 @@
 -- One witness at every node, and the tournament of a witness of two teams.
-use Rattle.std.proofs.Common.{ℕ, zero, suc, ◌≡◌, ◌+◌, ◌-◌, ◌<◌, ◌≤◌, max, Bool, true, false, List, [], ◌∷◌, length, refl, sym, ap, ◌∙◌, subst, arith, nat_lt, if◌then◌else◌}
+use Rattle.std.proofs.Common.{ℕ, zero, suc, ◌≡◌, ◌+◌, ◌-◌, ◌<◌, ◌≤◌, max, Bool, true, false, List, [], ◌∷◌, length, refl, sym, ap, ◌∙◌, subst, arith, nat_lt, length-append, ◌++◌, if◌then◌else◌}
 use Rattle.std.proofs.lemmas.Bool.Decides.{nat_tests}
 use Rattle.cn_table.specs.TypeTable.{TypeTable}
-use Rattle.cn_proto.specs.Tournament.{Bracket, bracket, first_team, whole}
+use Rattle.cn_proto.specs.Tournament.{Bracket, bracket, first_team, tournament, whole}
 use Rattle.cn_proto.specs.Tournament as rounds
 use Rattle.cn_proto.specs.Tournament.Bracket.{Alone as Single, Node}
 use Rattle.cn_meetings.specs.Choices.{renamed}
 use Rattle.cn_meetings.specs.Meeting.{Meeting}
 use Rattle.cn_meetings.specs.Witness.{BeginsIn, Has, IsShown, IsTeamWitness}
 use Rattle.cn_trees.specs.Seats.{Fits, HasRoles, pair_role, pair_room, root_of, seat_in, seated_tree, tournament_teams, with_team}
-use Rattle.cn_trees.specs.Tree.{AreWitnesses, Teams, comes_to, levels, members, path_in, team_in}
-use Rattle.cn_trees.specs.Tree.Teams.{Last}
-use Rattle.cn_trees.proofs.Paths.{stop}
+use Rattle.cn_trees.specs.Tree.{AreWitnesses, Teams, climb, comes_to, levels, members, nodes_in, path_in, team_in}
+use Rattle.cn_trees.specs.Tree.Teams.{Last, Meet}
+use Rattle.cn_trees.proofs.Paths.{below, meet_cases, stop, top}
 use Rattle.cn_trees.proofs.Places.{came}
 use Rattle.cn_trees.proofs.Seats.{have_seats, seated}
 
@@ -94,6 +94,53 @@ team_fits a b g (Node s u) rest le in_c fits = (
   team_fits a b 0 s (with_team u Last) in_c.0 in_c.2 (team_fits a b 1 u Last in_c.1 in_c.3 tt),
   fits,
 )
+
+-- ---- paths are as long as those of rounds
+behind_team : (c : Bracket) (rest : Teams) (node team next p : ℕ) → rounds.members c ≤ p
+    → (later : ℕ) × (climb (with_team c rest) node team next p ≡ climb rest node (team + 1) later (p - rounds.members c))
+behind_team Single rest node team next zero le = absurd (omega arith)
+behind_team Single rest node team next (suc p) le = (next, ap (climb rest node (team + 1) next) (omega arith))
+behind_team (Node s u) rest node team next p le =
+    let inner : Teams = with_team s (with_team u Last) in
+    let size : members inner ≡ rounds.members s + rounds.members u = (let x = team_members s (with_team u Last) in let y = team_members u Last in omega arith) in (
+      next + 1 + nodes_in inner,
+      meet_cases (λ path. path ≡ climb rest node (team + 1) (next + 1 + nodes_in inner) (p - (rounds.members s + rounds.members u))) inner rest node team next p
+          (λ l. absurd (omega arith))
+          (λ l. ap (λ m. climb rest node (team + 1) (next + 1 + nodes_in inner) (p - m)) size),
+    )
+
+root_step : (a v : ℕ) (s u : Bracket) (node team next p : ℕ) → p < rounds.members s + rounds.members u
+    → (p < rounds.members s → length (climb (with_team s (with_team u Last)) node team next p) ≡ length (rounds.climb a s (v + 1) p) + 1)
+    → ((later q : ℕ) → q < rounds.members u → length (climb (with_team u Last) node (team + 1) later q) ≡ length (rounds.climb a u (v + rounds.members s) q) + 1)
+    → length (climb (with_team s (with_team u Last)) node team next p) ≡ length (rounds.climb a (Node s u) v p)
+root_step a v s u node team next p lt inner outer =
+    go (nat_lt p (rounds.members s)) refl
+    ∙ sym (length-append (if nat_lt p (rounds.members s) then rounds.climb a s (v + 1) p else rounds.climb a u (v + rounds.members s) (p - rounds.members s)) (rounds.stand a s v p ∷ []))
+  where
+    go : (first : Bool) → nat_lt p (rounds.members s) ≡ first
+        → length (climb (with_team s (with_team u Last)) node team next p) ≡ length (if first then rounds.climb a s (v + 1) p else rounds.climb a u (v + rounds.members s) (p - rounds.members s)) + 1
+    go true e = inner (grind (arith, nat_tests))
+    go false e =
+        let l : rounds.members s ≤ p = grind (arith, nat_tests) in
+        let b = behind_team s (with_team u Last) node team next p l in
+        ap length b.1 ∙ outer b.0 (p - rounds.members s) (omega arith)
+
+path_long : (a v : ℕ) (c : Bracket) (rest : Teams) (node team next p : ℕ) → p < rounds.members c → length (climb (with_team c rest) node team next p) ≡ length (rounds.climb a c v p) + 1
+path_long a v Single rest node team next zero lt = refl
+path_long a v Single rest node team next (suc p) lt = absurd (omega arith)
+path_long a v (Node s u) rest node team next p lt =
+    let size : members (with_team s (with_team u Last)) ≡ rounds.members s + rounds.members u = (let x = team_members s (with_team u Last) in let y = team_members u Last in omega arith) in
+    let h = root_step a v s u next 0 (next + 1) p lt (λ l. path_long a (v + 1) s (with_team u Last) next 0 (next + 1) p l) (λ later q l. path_long a (v + rounds.members s) u Last next 1 later q l) in
+    meet_cases (λ path. length path ≡ length (rounds.climb a (Node s u) v p) + 1) (with_team s (with_team u Last)) rest node team next p
+    (λ l. omega (arith, h, length-append (below (with_team s (with_team u Last)) next p) (top node team ∷ [])))
+    (λ l. absurd (omega arith))
+
+pub paths_are : (a b p : ℕ) → 1 ≤ a → 1 ≤ b → p < a + b → length (path_in (tournament_teams a b) p) ≡ length (tournament a b p)
+paths_are a b p la lb lp = let f = bracket_fits (a + b) a b (a + b) la lb (omega arith) (omega arith) (omega arith) in go (whole a b) f.1
+  where
+    go : (c : Bracket) → rounds.members c ≡ a + b → length (path_in (root_of c) p) ≡ length (rounds.climb a c 0 p)
+    go Single m = absurd (omega arith)
+    go (Node s u) m = root_step a 0 s u 0 0 1 p (omega arith) (λ l. path_long a 1 s (with_team u Last) 0 0 1 p l) (λ later q l. path_long a (0 + rounds.members s) u Last 0 1 later q l)
 
 abbrev Whole : ℕ → ℕ → Bracket → Type 0
 Whole a b c = Fits (pair_room a b) 0 (root_of c) × (members (root_of c) ≡ a + b) × (levels (root_of c) ≤ a + b - 1)

@@ -6,6 +6,7 @@ ghost use Rattle.cn_table.specs.TypeTable.{TypeTable};
 ghost use Rattle.cn_agree.specs.Consensus.{IsSchedule};
 ghost use Rattle.cn_choice.specs.Canonical.{Choice, raw_choice_of};
 ghost use Rattle.cn_choice.specs.Discerning.{IsWitness};
+ghost use Rattle.cn_proto.specs.Tournament.{tournament};
 ghost use Rattle.cn_meetings.specs.Meeting.{Meeting};
 ghost use Rattle.cn_meetings.specs.Parting.{ArePart, Parting};
 ghost use Rattle.cn_trees.specs.Consensus.{IsConsensus, decision, steps_of};
@@ -90,7 +91,8 @@ pub fn parting_operations_make_plan_trees()
 ///
 /// - `one_witness`: a tree with one meeting at all nodes;
 /// - `tournament`: the tournament of the witness of a choice;
-/// - `processes`, `levels`: it has all processes of the choice, and fewer levels than processes.
+/// - `processes`, `levels`: it has all processes of the choice, and fewer levels than processes;
+/// - `paths`: each process has a path as long as in rounds.
 pub fn tournaments_are_trees_of_witnesses()
     // promise: tournaments-are-plan-trees (Fits)
     ensures one_witness { (t : TypeTable) (s : Teams) (M : Meeting) (processes : ℕ → Bool)
@@ -102,6 +104,10 @@ pub fn tournaments_are_trees_of_witnesses()
     // promise: tournaments-are-plan-trees
     ensures processes { (t : TypeTable) (c : Choice) → 1 ≤ length c.a → 1 ≤ length c.b
         → processes_of (tournament_tree t c) ≡ length c.a + length c.b }
+    // promise: tournaments-are-plan-trees (tournament)
+    ensures paths { (t : TypeTable) (c : Choice) (p : ℕ) → 1 ≤ length c.a → 1 ≤ length c.b
+        → p < length c.a + length c.b → length (path_of (tournament_tree t c) p)
+        ≡ length (tournament (length c.a) (length c.b) p) }
     // promise: tournaments-are-plan-trees (tournament_teams)
     ensures levels { (a b : ℕ) → 1 ≤ a → 1 ≤ b → levels (tournament_teams a b) ≤ a + b - 1 }
 {

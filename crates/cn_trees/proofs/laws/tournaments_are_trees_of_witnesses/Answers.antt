@@ -1,7 +1,7 @@
 use Rattle.std.proofs.Common.{length}
 use Rattle.cn_meetings.specs.Choices.{choice_meeting, choice_processes, choice_team}
 use Rattle.cn_trees.specs.Seats.{pair_role, pair_room, tournament_teams}
-use Rattle.cn_trees.proofs.Tournaments.{pair_roles, seated_witnesses, tournament_is}
+use Rattle.cn_trees.proofs.Tournaments.{pair_roles, paths_are, seated_witnesses, tournament_is}
 use Rattle.cn_trees.proofs.laws.tournaments_are_trees_of_witnesses.Goals as goal
 
 pub returns-clause-one_witness : goal.returns-clause-one_witness
@@ -18,3 +18,6 @@ returns-clause-processes c = λ t d la lb. (tournament_is (length d.a) (length d
 
 pub returns-clause-levels : goal.returns-clause-levels
 returns-clause-levels c = λ a b la lb. (tournament_is a b la lb).2
+
+pub returns-clause-paths : goal.returns-clause-paths
+returns-clause-paths c = λ t d p la lb lp. paths_are (length d.a) (length d.b) p la lb lp
