@@ -1,6 +1,5 @@
 -- Processes under other names, and witnesses of two teams.
-use Rattle.std.proofs.Common.{ℕ, zero, suc, ◌≡◌, ◌≢◌, ◌+◌, ◌<◌, Bool, true, false, List, [], ◌∷◌, length, map, slice_get, AllPairs, Option, Some, None, refl, sym, ap, ◌∙◌, subst, arith, inl, inr, nat_lt, if◌then◌else◌}
-use Rattle.std.specs.List.{AllByRecursion}
+use Rattle.std.proofs.Common.{ℕ, zero, suc, ◌≡◌, ◌≢◌, ◌+◌, ◌<◌, Bool, true, false, List, [], ◌∷◌, length, map, slice_get, Some, refl, sym, ap, ◌∙◌, subst, arith, inl, inr, nat_lt}
 use Rattle.std.proofs.lemmas.Bool.Decides.{nat_tests}
 use Rattle.cn_table.specs.TypeTable.{TypeTable}
 use Rattle.cn_choice.specs.Canonical.{Choice, raw_choice_of}
@@ -8,13 +7,12 @@ use Rattle.cn_choice.specs.Discerning.{IsWitness}
 use Rattle.cn_choice.specs.Moves.{move_of}
 use Rattle.cn_choice.specs.OutcomeSets.{InOutcomeSet}
 use Rattle.cn_choice.specs.declared.team.Team.{Team}
-use Rattle.cn_choice.specs.declared.team.Team.TheVariants.{A, B}
 use Rattle.cn_choice.proofs.ListLemmas.Arrangements.{Differ}
 use Rattle.cn_choice.proofs.ListLemmas.Members.{AllPairs-from_Pairs, IsIn, IsIn-map_from, each_from}
 use Rattle.cn_proto.specs.Order.{IsAnswered, IsRun, after, answers}
 use Rattle.cn_proto.specs.Tournament.{team_of}
 use Rattle.cn_meetings.specs.Choices.{choice_meeting, choice_processes, choice_team, renamed}
-use Rattle.cn_meetings.specs.Meeting.{Meeting, act, see}
+use Rattle.cn_meetings.specs.Meeting.{Meeting, act}
 use Rattle.cn_meetings.specs.Witness.{BeginsIn, Has, IsOrderOf, IsShown, IsTeamWitness}
 use Rattle.cn_meetings.proofs.Orders.{below, order_apart, order_tail}
 

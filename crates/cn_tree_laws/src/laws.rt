@@ -1,7 +1,8 @@
 //! Laws of plan trees in the model of all protocols. A law is a function that does nothing: its
 //! contract is the law.
-ghost use Rattle.std.specs.Prelude.{ℕ, ◌≡◌, ◌≢◌, ◌≤◌, ◌<◌};
+ghost use Rattle.std.specs.Prelude.{ℕ, ◌≢◌, ◌≤◌, ◌↔◌};
 ghost use Rattle.cn_table.specs.TypeTable.{IsClosed, TypeTable};
+ghost use Rattle.cn_choice.specs.Discerning.{IsDiscerning};
 ghost use Rattle.cn_consensus.specs.Consensus.{IsConsensusProtocol};
 ghost use Rattle.cn_consensus.specs.Protocol.{IsProtocolOf};
 ghost use Rattle.cn_consensus.specs.Types.{all_of};
@@ -12,12 +13,14 @@ ghost use Rattle.cn_meetings.specs.Examples.{compare_and_swap, quiet_bit, sticky
 ghost use Rattle.cn_meetings.specs.Meeting.Sight.{State};
 ghost use Rattle.cn_meetings.specs.Parting.{ArePart, IsPartingOf, Parting};
 ghost use Rattle.cn_trees.specs.Tree.{AreWitnesses, IsOfType, IsPlanTree, PlanTree, processes_of};
-ghost use Rattle.cn_tree_laws.specs.TreeProtocol.{ReadsNoState, tree_protocol};
+ghost use Rattle.cn_tree_laws.specs.TreeProtocol.{HasTreeOfWitnesses, ReadsNoState, tree_protocol};
 
+use cn_choice::laws::coverage;
 use cn_meetings::laws::{examples_are_of_types, examples_of_parting_operations};
+use cn_solvable::laws::solving_is_discerning;
 use cn_trees::laws::{
     parting_operations_make_plan_trees, plan_trees_agree, steps_of_plan_trees,
-    witnesses_make_plan_trees,
+    tournaments_are_trees_of_witnesses, witnesses_make_plan_trees,
 };
 
 /// The protocol of every plan tree, for its processes or the first n of them, is one of its type, and
@@ -50,6 +53,20 @@ pub fn trees_are_enough()
 {
     plan_trees_are_protocols();
     witnesses_make_plan_trees();
+}
+
+/// Plan trees are as good as any protocol: a type has a tree of witnesses for n processes, 2 or more,
+/// exactly if it is n-discerning, so exactly if it solves consensus for n. One is the tournament of a
+/// witness (Ruppert, 2000).
+pub fn plan_trees_are_general()
+    // promise: plan-trees-are-general (IsDiscerning, AreWitnesses)
+    ensures { (t : TypeTable) (n : ℕ) → IsClosed t → 2 ≤ n
+        → IsDiscerning t n ↔ HasTreeOfWitnesses t n }
+{
+    coverage();
+    tournaments_are_trees_of_witnesses();
+    trees_are_enough();
+    solving_is_discerning();
 }
 
 /// Two or more operations that part are enough for any number of processes; with no read where they

@@ -1,12 +1,11 @@
 -- Full trees of operations that part.
-use Rattle.std.proofs.Common.{ℕ, zero, suc, ◌≡◌, ◌+◌, ◌-◌, ◌*◌, ◌<◌, ◌≤◌, inl, inr, Bool, true, false, ◌&&◌, List, [], ◌∷◌, ◌++◌, length, refl, sym, ap, ◌∙◌, arith, nat_lt, true≢false}
-use Rattle.std.proofs.lemmas.Bool.Decides.{nat_tests}
+use Rattle.std.proofs.Common.{ℕ, zero, suc, ◌≡◌, ◌+◌, ◌-◌, ◌*◌, ◌<◌, ◌≤◌, inl, inr, List, [], ◌∷◌, ◌++◌, length, refl, ap, ◌∙◌, arith}
 use Rattle.cn_meetings.specs.Witness.{Has}
 use Rattle.cn_trees.specs.FullTrees.{copies, full, power, singles}
-use Rattle.cn_trees.specs.Tree.{Place, Teams, climb, comes_to, levels, members, nodes_in, passes, path_in, team_in}
+use Rattle.cn_trees.specs.Tree.{Place, Teams, climb, comes_to, levels, members, nodes_in, team_in}
 use Rattle.cn_trees.specs.Tree.Teams.{Last, Alone, Meet}
 use Rattle.cn_trees.proofs.Places.{came}
-use Rattle.cn_trees.proofs.Paths.{below, meet_cases, one_visit, place_at, stop, stop_push, team_is, top}
+use Rattle.cn_trees.proofs.Paths.{below, meet_cases, stop, stop_push, top}
 
 -- the number of teams
 abbrev pub width : Teams → ℕ

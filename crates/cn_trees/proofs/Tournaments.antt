@@ -1,16 +1,19 @@
 -- One witness at every node, and the tournament of a witness of two teams.
 use Rattle.std.proofs.Common.{ℕ, zero, suc, ◌≡◌, ◌+◌, ◌-◌, ◌<◌, ◌≤◌, max, Bool, true, false, List, [], ◌∷◌, length, refl, sym, ap, ◌∙◌, subst, arith, nat_lt, length-append, ◌++◌, if◌then◌else◌}
 use Rattle.std.proofs.lemmas.Bool.Decides.{nat_tests}
+use Rattle.std.proofs.lemmas.List.Elements.{All-get_or}
 use Rattle.cn_table.specs.TypeTable.{TypeTable}
 use Rattle.cn_proto.specs.Tournament.{Bracket, bracket, first_team, tournament, whole}
 use Rattle.cn_proto.specs.Tournament as rounds
 use Rattle.cn_proto.specs.Tournament.Bracket.{Alone as Single, Node}
-use Rattle.cn_meetings.specs.Choices.{renamed}
+use Rattle.cn_choice.specs.Canonical.{Choice, raw_choice_of}
+use Rattle.cn_choice.specs.RawChoices.{IsRawChoice}
+use Rattle.cn_meetings.specs.Choices.{choice_meeting, choice_processes, choice_team, renamed}
 use Rattle.cn_meetings.specs.Meeting.{Meeting}
 use Rattle.cn_meetings.specs.Witness.{BeginsIn, Has, IsShown, IsTeamWitness}
-use Rattle.cn_trees.specs.Seats.{Fits, HasRoles, pair_role, pair_room, root_of, seat_in, seated_tree, tournament_teams, with_team}
-use Rattle.cn_trees.specs.Tree.{AreWitnesses, Teams, climb, comes_to, levels, members, nodes_in, path_in, team_in}
-use Rattle.cn_trees.specs.Tree.Teams.{Last, Meet}
+use Rattle.cn_trees.specs.Seats.{Fits, HasRoles, pair_role, pair_room, root_of, seat_in, seated_tree, tournament_teams, tournament_tree, with_team}
+use Rattle.cn_trees.specs.Tree.{AreWitnesses, IsOfType, Teams, climb, comes_to, levels, members, nodes_in, path_in, team_in}
+use Rattle.cn_trees.specs.Tree.Teams.{Last}
 use Rattle.cn_trees.proofs.Paths.{below, meet_cases, stop, top}
 use Rattle.cn_trees.proofs.Places.{came}
 use Rattle.cn_trees.proofs.Seats.{have_seats, seated}
@@ -52,6 +55,9 @@ module _ (names : OtherNames) (t : TypeTable) (s : Teams) (M : Meeting) (process
   seated_witnesses witness v =
       same_teams t (renamed (own v) M) (comes_to s v) (λ p. team (own v p)) (team_in s v) (λ p h. roles.team_is (team_in s v p) (seat_in s v p) (within v p h))
       (names t M processes (comes_to s v) (own v) team (λ p h. roles.known (team_in s v p) (seat_in s v p) (within v p h)) (λ p q hp hq e. own_apart v p q hp hq e) witness)
+
+  pub own_known : (v p : ℕ) → Has (comes_to s v) p → Has processes (own v p)
+  own_known v p h = roles.known (team_in s v p) (seat_in s v p) (within v p h)
 
 -- ---- the tournament
 abbrev FitsIn : ℕ → ℕ → Bracket → Type 0
@@ -178,3 +184,15 @@ pair_roles a b = record { known = known; team_is = team_is; apart = apart }
     apart : (g i j : ℕ) → i < pair_room a b g → j < pair_room a b g → pair_role a g i ≡ pair_role a g j → i ≡ j
     apart zero i j li lj e = e
     apart (suc g) i j li lj e = omega arith
+
+pub tournament_of : (t : TypeTable) (n : ℕ) (c : Choice) → OtherNames → 1 ≤ length c.a → 1 ≤ length c.b → IsRawChoice t n (raw_choice_of c) → IsOfType (tournament_tree t c)
+tournament_of t n c names la lb is = record {
+  starts = λ node. is.state_known;
+  operations = λ node p h. (
+      let a = length c.a in let b = length c.b in
+      let role : ℕ = pair_role a (team_in (tournament_teams a b) node p) (seat_in (tournament_teams a b) node p) in
+      let known : Has (choice_processes c) role = own_known names t (tournament_teams a b) (choice_meeting c) (choice_processes c) (choice_team c) (pair_room a b) (pair_role a) (pair_roles a b) (tournament_is a b la lb).0 node p h in
+      let less : role < a + b = grind (arith, nat_tests) in
+      All-get_or (λ o. o < length t.operations) (c.a ++ c.b) role 0 (omega (arith, less, length-append c.a c.b)) is.operations_known);
+  sights = λ node p h. tt;
+}

@@ -6,6 +6,7 @@ ghost use Rattle.cn_table.specs.TypeTable.{TypeTable};
 ghost use Rattle.cn_agree.specs.Consensus.{IsSchedule};
 ghost use Rattle.cn_choice.specs.Canonical.{Choice, raw_choice_of};
 ghost use Rattle.cn_choice.specs.Discerning.{IsWitness};
+ghost use Rattle.cn_choice.specs.RawChoices.{IsRawChoice};
 ghost use Rattle.cn_proto.specs.Tournament.{tournament};
 ghost use Rattle.cn_meetings.specs.Meeting.{Meeting};
 ghost use Rattle.cn_meetings.specs.Parting.{ArePart, Parting};
@@ -15,7 +16,7 @@ ghost use Rattle.cn_trees.specs.FullTrees.{full, parting_tree, power};
 ghost use Rattle.cn_trees.specs.Seats.{Fits, HasRoles, seated_tree, tournament_teams, tournament_tree};
 ghost use Rattle.cn_trees.specs.Steps.{looks_at, world_after};
 ghost use Rattle.cn_meetings.specs.Witness.{Has, IsTeamWitness};
-ghost use Rattle.cn_trees.specs.Tree.{AreWitnesses, IsPlace, IsPlanTree, PlanTree, Teams, comes_to, levels};
+ghost use Rattle.cn_trees.specs.Tree.{AreWitnesses, IsOfType, IsPlace, IsPlanTree, PlanTree, Teams, comes_to, levels};
 ghost use Rattle.cn_trees.specs.Tree.{nodes_of, path_of, place_of, processes_of, team_in};
 
 use cn_meetings::laws::{
@@ -91,6 +92,7 @@ pub fn parting_operations_make_plan_trees()
 ///
 /// - `one_witness`: a tree with one meeting at all nodes;
 /// - `tournament`: the tournament of the witness of a choice;
+/// - `of_type`: it is of the type, if the choice is;
 /// - `processes`, `levels`: it has all processes of the choice, and fewer levels than processes;
 /// - `paths`: each process has a path as long as in rounds.
 pub fn tournaments_are_trees_of_witnesses()
@@ -101,6 +103,9 @@ pub fn tournaments_are_trees_of_witnesses()
     // promise: tournaments-are-plan-trees (IsWitness)
     ensures tournament { (t : TypeTable) (c : Choice) → 1 ≤ length c.a → 1 ≤ length c.b
         → IsWitness t (raw_choice_of c) → AreWitnesses (tournament_tree t c) }
+    // promise: tournaments-are-plan-trees (IsOfType)
+    ensures of_type { (t : TypeTable) (n : ℕ) (c : Choice) → 1 ≤ length c.a → 1 ≤ length c.b
+        → IsRawChoice t n (raw_choice_of c) → IsOfType (tournament_tree t c) }
     // promise: tournaments-are-plan-trees
     ensures processes { (t : TypeTable) (c : Choice) → 1 ≤ length c.a → 1 ≤ length c.b
         → processes_of (tournament_tree t c) ≡ length c.a + length c.b }
