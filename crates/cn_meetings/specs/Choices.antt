@@ -1,5 +1,6 @@
 -- Choices as meetings, and processes under other names.
--- Source: Ruppert, Determining consensus numbers, 2000: witnesses of two teams whose processes read.
+-- Source: Ruppert, Determining consensus numbers, 2000: witnesses of two teams whose processes
+-- read.
 use Rattle.std.specs.Prelude.{ℕ, ◌+◌, Bool, length, nat_lt, if◌then◌else◌, slice_index}
 use Rattle.cn_choice.specs.Canonical.{Choice, raw_choice_of}
 use Rattle.cn_meetings.specs.Meeting.{Meeting}

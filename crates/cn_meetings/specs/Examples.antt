@@ -1,13 +1,14 @@
 -- Types as examples, and operations of them that part.
-use Rattle.std.specs.Prelude.{ℕ, zero, suc, ◌+◌, ◌-◌, Bool, true, false, [], ◌∷◌, map, nat_lt, replicate}
+use Rattle.std.specs.Prelude.{ℕ, zero, suc, ◌+◌, ◌-◌, Bool, true, false, [], ◌∷◌, map, nat_lt}
+use Rattle.std.specs.Prelude.{replicate}
 use Rattle.std.specs.List.{range_with_len}
 use Rattle.cn_table.specs.TypeTable.{TypeTable}
 use Rattle.cn_meetings.specs.Meeting.{Sight}
 use Rattle.cn_meetings.specs.Meeting.Sight.{Nothing}
 use Rattle.cn_meetings.specs.Parting.{Parting}
 
--- A sticky bit. States: unset, zero, one. Operations: to put zero, to put one; each answers with the
--- bit that then is there.
+-- A sticky bit. States: unset, zero, one. Operations: to put zero, to put one; each answers with
+-- the bit that then is there.
 -- Source: Plotkin, Sticky bits and universality of consensus, 1989.
 abbrev pub sticky_bit : TypeTable
 sticky_bit = record {
@@ -60,8 +61,8 @@ quiet_puts sight = record {
   judge = λ g response saw. saw - 1;
 }
 
--- Compare-and-swap from 0 to one of k values: operation g puts g + 1 if it finds 0, and answers with
--- the value that it finds.
+-- Compare-and-swap from 0 to one of k values: operation g puts g + 1 if it finds 0, and answers
+-- with the value that it finds.
 -- Source: Herlihy, Wait-free synchronization, 1991.
 abbrev pub compare_and_swap : ℕ → TypeTable
 compare_and_swap k = record {

@@ -5,8 +5,8 @@ use Rattle.std.specs.Prelude.{ℕ, Bool, true, false}
 use Rattle.cn_table.specs.TypeTable.{TypeTable, transition}
 use Rattle.cn_unread.specs.Views.{IsSilent}
 
--- how a process looks at the object behind its operation: it reads the state, it does not look, or it
--- applies a further operation and gets the response
+-- how a process looks at the object behind its operation: it reads the state, it does not look, or
+-- it applies a further operation and gets the response
 pub data Sight : Type 0 where
   State : Sight
   Nothing : Sight

@@ -3,8 +3,8 @@ use Rattle.std.specs.Prelude.{ℕ, ◌≡◌, ◌<◌, Bool, true, length}
 use Rattle.cn_table.specs.TypeTable.{TypeTable, transition}
 use Rattle.cn_meetings.specs.Meeting.{IsSightOf, Meeting, Sight, sees}
 
--- a start state; the operation of each team; how its processes look; which states are marked, and for
--- the team of which; and the judgement by the own team, the response, and what is seen
+-- a start state; the operation of each team; how its processes look; which states are marked, and
+-- for the team of which; and the judgement by the own team, the response, and what is seen
 pub record Parting : Type 0 where
   pub start : ℕ
   pub operation : ℕ → ℕ
@@ -13,8 +13,8 @@ pub record Parting : Type 0 where
   pub side : ℕ → ℕ
   pub judge : ℕ → ℕ → ℕ → ℕ
 
--- the operations of k teams part: the first one leads to a state that is marked for its team; further
--- ones lead to states that are marked for the same team; and each process judges right
+-- the operations of k teams part: the first one leads to a state that is marked for its team;
+-- further ones lead to states that are marked for the same team; and each process judges right
 pub record ArePart (t : TypeTable) (k : ℕ) (w : Parting) : Type 0 where
   pub begins : (g : ℕ) → g < k
       → (w.marked (transition t (w.operation g) w.start).1 ≡ true)

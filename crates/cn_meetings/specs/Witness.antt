@@ -26,8 +26,8 @@ pub record IsShown (t : TypeTable) (M : Meeting) (processes : ℕ → Bool) (ord
   pub answered : IsAnswered (act t M) M.start order p response
   pub last_state : see t M p (after (act t M) M.start order) ≡ saw
 
--- the members are in these teams, and no process is shown the same by orders that begin in different
--- teams
+-- the members are in these teams, and no process is shown the same by orders that begin in
+-- different teams
 abbrev pub IsTeamWitness : TypeTable → Meeting → (ℕ → Bool) → (ℕ → ℕ) → Type 0
 IsTeamWitness t M processes team = (g h p response saw : ℕ) (alpha beta : List ℕ)
     → IsShown t M processes alpha p response saw → IsShown t M processes beta p response saw

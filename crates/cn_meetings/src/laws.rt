@@ -6,18 +6,20 @@ ghost use Rattle.cn_choice.specs.Discerning.{IsWitness};
 ghost use Rattle.cn_unread.specs.Views.{IsSilent};
 ghost use Rattle.cn_meetings.specs.Choices.{choice_meeting, choice_processes, choice_team, renamed};
 ghost use Rattle.cn_meetings.specs.Division.{AreJoined, IsCoarser, IsFinest};
-ghost use Rattle.cn_meetings.specs.Examples.{compare_and_swap, puts, quiet_bit, quiet_puts, sticky_bit};
+ghost use Rattle.cn_meetings.specs.Examples.{compare_and_swap, puts, quiet_bit, quiet_puts};
+ghost use Rattle.cn_meetings.specs.Examples.{sticky_bit};
 ghost use Rattle.cn_meetings.specs.Examples.{swaps};
 ghost use Rattle.cn_meetings.specs.Meeting.{IsSightOf, Meeting, Sight, see};
 ghost use Rattle.cn_meetings.specs.Meeting.Sight.{Response, State};
-ghost use Rattle.cn_meetings.specs.Parting.{ArePart, IsPartingOf, Parting, parting_judge, parting_meeting};
+ghost use Rattle.cn_meetings.specs.Parting.{ArePart, IsPartingOf, Parting, parting_judge};
+ghost use Rattle.cn_meetings.specs.Parting.{parting_meeting};
 ghost use Rattle.cn_meetings.specs.Witness.{Has, IsTeamWitness, JudgesRight};
 
 use cn_proto::laws::tournaments_are_sound;
 
 /// A division is a witness exactly if joined processes are in one team. So the components of the
-/// joined processes are a finest division, and the witnesses are the divisions that are coarser. New
-/// here.
+/// joined processes are a finest division, and the witnesses are the divisions that are coarser.
+/// New here.
 pub fn finest_division()
     // promise: finest-division (IsTeamWitness, AreJoined)
     ensures joined { (t : TypeTable) (M : Meeting) (processes : ℕ → Bool) (team : ℕ → ℕ)
@@ -51,7 +53,8 @@ pub fn witnesses_are_judged()
 /// - `fewer_processes`: leaving out processes keeps a witness;
 /// - `fewer_teams`: so does merging teams;
 /// - `seeing_more`: and so does seeing more of the state;
-/// - `one_operation`: two processes with one operation are in one team, if there is a third process;
+/// - `one_operation`: two processes with one operation are in one team, if there is a third
+///   process;
 /// - `other_names`: other processes with the same operations and sights are a witness too.
 pub fn witnesses_are_kept()
     // promise: kept-witnesses
@@ -100,8 +103,8 @@ pub fn parting_operations_are_told()
 {}
 
 /// Examples of operations that part. Those of a sticky bit are told by the response. Those of a bit
-/// that answers nothing are told by a read, and by a silent operation. Those of compare-and-swap part
-/// in as many teams as it has values.
+/// that answers nothing are told by a read, and by a silent operation. Those of compare-and-swap
+/// part in as many teams as it has values.
 pub fn examples_of_parting_operations()
     // promise: examples-of-plan-trees
     ensures sticky_bit { ArePart sticky_bit 2 puts }

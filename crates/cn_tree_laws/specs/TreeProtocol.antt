@@ -1,7 +1,8 @@
--- The protocol of a plan tree, as a protocol of the model of all protocols: one object for each node,
--- and one register for each team of a node. It has the local states of rounds.
+-- The protocol of a plan tree, as a protocol of the model of all protocols: one object for each
+-- node, and one register for each team of a node. It has the local states of rounds.
 -- Source: Ruppert, Determining consensus numbers, 2000, with a look in place of a read.
-use Rattle.std.specs.Prelude.{◌≡◌, ◌≢◌, ℕ, zero, suc, ◌+◌, ◌*◌, ◌≤◌, Bool, length, Option, None, Some}
+use Rattle.std.specs.Prelude.{◌≡◌, ◌≢◌, ℕ, zero, suc, ◌+◌, ◌*◌, ◌≤◌, Bool, length, Option, None}
+use Rattle.std.specs.Prelude.{Some}
 use Rattle.cn_table.specs.TypeTable.{TypeTable}
 use Rattle.cn_agree.specs.declared.local.Local.{Local as LocalOf}
 use Rattle.cn_agree.specs.declared.local.Local.TheVariants.{NotBegun, Active as At, Decided as Done}
@@ -17,7 +18,8 @@ use Rattle.cn_meetings.specs.Witness.{Has}
 use Rattle.cn_trees.specs.Steps.{Local, Stage, behind, onward_if_found}
 use Rattle.cn_trees.specs.Steps.Local.{Active, Decided}
 use Rattle.cn_trees.specs.Steps.Stage.{Write, Apply, Look, Take}
-use Rattle.cn_trees.specs.Tree.{AreWitnesses, IsOfType, Place, PlanTree, comes_to, path_of, place_of}
+use Rattle.cn_trees.specs.Tree.{AreWitnesses, IsOfType, Place, PlanTree, comes_to, path_of}
+use Rattle.cn_trees.specs.Tree.{place_of}
 use Rattle.cn_trees.specs.Tree.{processes_of}
 
 -- the number of the register of a team at a node: no two have one number

@@ -23,8 +23,8 @@ use cn_trees::laws::{
     tournaments_are_trees_of_witnesses, witnesses_make_plan_trees,
 };
 
-/// The protocol of every plan tree, for its processes or the first n of them, is one of its type, and
-/// solves consensus. Where no process reads a state, it reads no object.
+/// The protocol of every plan tree, for its processes or the first n of them, is one of its type,
+/// and solves consensus. Where no process reads a state, it reads no object.
 pub fn plan_trees_are_protocols()
     // promise: plan-trees-in-the-model
     ensures of_type { (T : PlanTree) (n : ℕ) → IsOfType T → n ≤ processes_of T
@@ -40,9 +40,9 @@ pub fn plan_trees_are_protocols()
     steps_of_plan_trees();
 }
 
-/// Trees of witnesses are enough: a type solves consensus for the processes of a tree whose nodes are
-/// witnesses, and for fewer; with no read where no process reads a state. Ruppert, 2000, has one
-/// witness of two teams at all nodes.
+/// Trees of witnesses are enough: a type solves consensus for the processes of a tree whose nodes
+/// are witnesses, and for fewer; with no read where no process reads a state. Ruppert, 2000, has
+/// one witness of two teams at all nodes.
 pub fn trees_are_enough()
     // promise: trees-are-enough (AreWitnesses, SolvesConsensus)
     ensures reads { (T : PlanTree) (n : ℕ) → IsClosed T.table → IsOfType T → AreWitnesses T
@@ -55,9 +55,9 @@ pub fn trees_are_enough()
     witnesses_make_plan_trees();
 }
 
-/// Plan trees are as good as any protocol: a type has a tree of witnesses for n processes, 2 or more,
-/// exactly if it is n-discerning, so exactly if it solves consensus for n. One is the tournament of a
-/// witness (Ruppert, 2000).
+/// Plan trees are as good as any protocol: a type has a tree of witnesses for n processes, 2 or
+/// more, exactly if it is n-discerning, so exactly if it solves consensus for n. One is the
+/// tournament of a witness (Ruppert, 2000).
 pub fn plan_trees_are_general()
     // promise: plan-trees-are-general (IsDiscerning, AreWitnesses)
     ensures { (t : TypeTable) (n : ℕ) → IsClosed t → 2 ≤ n
@@ -84,8 +84,8 @@ pub fn parting_operations_are_enough()
 }
 
 /// Examples: sticky bits solve consensus for any number of processes, with no read. So do bits that
-/// answer nothing, by a silent operation, and with reads alone; and compare-and-swap on three values or
-/// more.
+/// answer nothing, by a silent operation, and with reads alone; and compare-and-swap on three
+/// values or more.
 pub fn examples_solve_consensus()
     // promise: examples-of-plan-trees
     ensures sticky_bit { (n : ℕ) → SolvesWithoutReads sticky_bit n }

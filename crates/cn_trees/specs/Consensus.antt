@@ -1,6 +1,8 @@
--- Consensus along a plan tree: agreement, validity, and wait-freedom with the exact number of steps.
+-- Consensus along a plan tree: agreement, validity, and wait-freedom with the exact number of
+-- steps.
 -- Source: Herlihy, Wait-free synchronization, 1991.
-use Rattle.std.specs.Prelude.{ℕ, zero, suc, ◌≡◌, ◌+◌, ◌<◌, ◌≤◌, ◌↔◌, List, length, Option, Some, None, IsSome, Contains, if◌then◌else◌}
+use Rattle.std.specs.Prelude.{ℕ, zero, suc, ◌≡◌, ◌+◌, ◌<◌, ◌≤◌, ◌↔◌, List, length, Option, Some}
+use Rattle.std.specs.Prelude.{None, IsSome, Contains, if◌then◌else◌}
 use Rattle.cn_agree.specs.Consensus.{occurrences}
 use Rattle.cn_trees.specs.Steps.{Local, World, looks_at, world_after}
 use Rattle.cn_trees.specs.Steps.Local.{Active, Decided}
@@ -27,8 +29,8 @@ steps_before T p (suc i) = steps_before T p i + steps_at T p (place_of T p i)
 abbrev pub steps_of : PlanTree → ℕ → ℕ
 steps_of T p = steps_before T p (length (path_of T p))
 
--- after this schedule of n processes: agreement; validity, for participants; and a process has decided
--- exactly if it has taken the steps of its path
+-- after this schedule of n processes: agreement; validity, for participants; and a process has
+-- decided exactly if it has taken the steps of its path
 pub record IsConsensus {V : Type 0} (T : PlanTree) (n : ℕ) (inputs : ℕ → V) (schedule : List ℕ)
     : Type 0 where
   pub agreement : (p q : ℕ) (x y : V) → p < n → q < n

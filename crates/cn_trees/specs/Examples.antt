@@ -14,5 +14,5 @@ one_compare_and_swap k = parting_tree (compare_and_swap k) (full k 0) (swaps k)
 
 -- process 0 writes its value, process 3 takes all its steps, process 0 the rest of its own, and
 -- process 1 all but one
-abbrev pub third_goes_first : List ℕ
-third_goes_first = 0 ∷ 3 ∷ 3 ∷ 3 ∷ 3 ∷ 3 ∷ 3 ∷ 0 ∷ 0 ∷ 0 ∷ 0 ∷ 0 ∷ 1 ∷ 1 ∷ 1 ∷ 1 ∷ 1 ∷ []
+abbrev pub last_goes_first : List ℕ
+last_goes_first = 0 ∷ 3 ∷ 3 ∷ 3 ∷ 3 ∷ 3 ∷ 3 ∷ 0 ∷ 0 ∷ 0 ∷ 0 ∷ 0 ∷ 1 ∷ 1 ∷ 1 ∷ 1 ∷ 1 ∷ []

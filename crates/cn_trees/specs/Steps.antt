@@ -1,14 +1,16 @@
 -- The steps of processes along a plan tree: one atomic action of one process at a time.
--- Source: Ruppert, Determining consensus numbers, 2000, with a look in place of a read. That a process
--- need not look is new here.
-use Rattle.std.specs.Prelude.{ℕ, ◌+◌, List, [], ◌∷◌, length, nat_lt, if◌then◌else◌, Bool, Option, Some, None}
+-- Source: Ruppert, Determining consensus numbers, 2000, with a look in place of a read. That a
+-- process need not look is new here.
+use Rattle.std.specs.Prelude.{ℕ, ◌+◌, List, [], ◌∷◌, length, nat_lt, if◌then◌else◌, Bool, Option}
+use Rattle.std.specs.Prelude.{Some, None}
 use Rattle.cn_unread.specs.Functions.{put}
 use Rattle.cn_meetings.specs.Meeting.{act, looks, see}
 use Rattle.cn_trees.specs.Tree.{Place, PlanTree, path_of, place_of}
 
 -- the next action of a process at its place, with what it keeps for it: it writes its value to the
--- register of its team; it applies its operation; it looks at the object, with the response; it reads
--- the register of the team that it judges by the response, and by what it saw, to have come first
+-- register of its team; it applies its operation; it looks at the object, with the response; it
+-- reads the register of the team that it judges by the response, and by what it saw, to have come
+-- first
 pub data Stage : Type 0 where
   Write : Stage
   Apply : Stage

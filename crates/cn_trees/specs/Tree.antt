@@ -1,8 +1,9 @@
--- Plan trees: at each node teams meet, each of one process alone or of the processes that have met at
--- a node below.
--- Source: Ruppert, Determining consensus numbers, 2000: the tournament, whose nodes have two teams and
--- one witness. Nodes with more teams and with witnesses of their own are new here.
-use Rattle.std.specs.Prelude.{ℕ, zero, suc, ◌+◌, ◌-◌, ◌<◌, max, List, [], ◌∷◌, ◌++◌, length, Bool, false, ◌&&◌, ◌||◌, nat_lt, nat_eq, if◌then◌else◌, slice_index_or}
+-- Plan trees: at each node teams meet, each of one process alone or of the processes that have met
+-- at a node below.
+-- Source: Ruppert, Determining consensus numbers, 2000: the tournament, whose nodes have two teams
+-- and one witness. Nodes with more teams and with witnesses of their own are new here.
+use Rattle.std.specs.Prelude.{ℕ, zero, suc, ◌+◌, ◌-◌, ◌<◌, max, List, [], ◌∷◌, ◌++◌, length, Bool}
+use Rattle.std.specs.Prelude.{false, ◌&&◌, ◌||◌, nat_lt, nat_eq, if◌then◌else◌, slice_index_or}
 use Rattle.cn_table.specs.TypeTable.{TypeTable}
 use Rattle.cn_meetings.specs.Meeting.{IsSightOf, Meeting}
 use Rattle.cn_meetings.specs.Witness.{Has, IsTeamWitness, JudgesRight}
@@ -39,8 +40,8 @@ pub record Place : Type 0 where
   pub node : ℕ
   pub team : ℕ
 
--- the path up to this node of process p of these teams, the first of which has this number; the nodes
--- below have numbers from next on
+-- the path up to this node of process p of these teams, the first of which has this number; the
+-- nodes below have numbers from next on
 abbrev pub climb : Teams → ℕ → ℕ → ℕ → ℕ → List Place
 climb Last node team next p = []
 climb (Alone r) node team next zero = record { node = node; team = team } ∷ []

@@ -1,7 +1,8 @@
 //! Laws of plan trees. A law is a function that does nothing: its contract is the law.
 //!
 //! Everywhere `V` are the values of the processes.
-ghost use Rattle.std.specs.Prelude.{ℕ, List, ◌≡◌, Bool, ◌+◌, ◌-◌, ◌*◌, ◌<◌, ◌≤◌, length, true, false, Some, None};
+ghost use Rattle.std.specs.Prelude.{ℕ, List, ◌≡◌, Bool, ◌+◌, ◌-◌, ◌*◌, ◌<◌, ◌≤◌, length, true};
+ghost use Rattle.std.specs.Prelude.{false, Some, None};
 ghost use Rattle.cn_table.specs.TypeTable.{TypeTable};
 ghost use Rattle.cn_agree.specs.Consensus.{IsSchedule};
 ghost use Rattle.cn_choice.specs.Canonical.{Choice, raw_choice_of};
@@ -11,12 +12,15 @@ ghost use Rattle.cn_proto.specs.Tournament.{tournament};
 ghost use Rattle.cn_meetings.specs.Meeting.{Meeting};
 ghost use Rattle.cn_meetings.specs.Parting.{ArePart, Parting};
 ghost use Rattle.cn_trees.specs.Consensus.{IsConsensus, decision, steps_of};
-ghost use Rattle.cn_trees.specs.Examples.{four_of_a_sticky_bit, one_compare_and_swap, third_goes_first};
+ghost use Rattle.cn_trees.specs.Examples.{four_of_a_sticky_bit, one_compare_and_swap};
+ghost use Rattle.cn_trees.specs.Examples.{last_goes_first};
 ghost use Rattle.cn_trees.specs.FullTrees.{full, parting_tree, power};
-ghost use Rattle.cn_trees.specs.Seats.{Fits, HasRoles, seated_tree, tournament_teams, tournament_tree};
+ghost use Rattle.cn_trees.specs.Seats.{Fits, HasRoles, seated_tree, tournament_teams};
+ghost use Rattle.cn_trees.specs.Seats.{tournament_tree};
 ghost use Rattle.cn_trees.specs.Steps.{looks_at, world_after};
 ghost use Rattle.cn_meetings.specs.Witness.{Has, IsTeamWitness};
-ghost use Rattle.cn_trees.specs.Tree.{AreWitnesses, IsOfType, IsPlace, IsPlanTree, PlanTree, Teams, comes_to, levels};
+ghost use Rattle.cn_trees.specs.Tree.{AreWitnesses, IsOfType, IsPlace, IsPlanTree, PlanTree, Teams};
+ghost use Rattle.cn_trees.specs.Tree.{comes_to, levels};
 ghost use Rattle.cn_trees.specs.Tree.{nodes_of, path_of, place_of, processes_of, team_in};
 
 use cn_meetings::laws::{
@@ -25,17 +29,17 @@ use cn_meetings::laws::{
 };
 
 /// In every schedule of the processes of a plan tree, or of the first n of them, all decisions are
-/// equal, and the input of a process that has taken a step. A process has decided exactly when it has
-/// taken the steps of its path.
+/// equal, and the input of a process that has taken a step. A process has decided exactly when it
+/// has taken the steps of its path.
 pub fn plan_trees_agree<V>()
     // promise: plan-trees-agree (IsPlanTree, IsConsensus: agreement, validity, in_time)
     ensures { (T : PlanTree) (n : ℕ) → IsPlanTree T → n ≤ processes_of T → (inputs : ℕ → V)
         (schedule : List ℕ) → IsSchedule n schedule → IsConsensus T n inputs schedule }
 {}
 
-/// The steps of a process: three for each node of its path, or four for each if it looks at each. No
-/// path has more nodes than the tree has levels, and no node has another number than those of the
-/// tree.
+/// The steps of a process: three for each node of its path, or four for each if it looks at each.
+/// No path has more nodes than the tree has levels, and no node has another number than those of
+/// the tree.
 pub fn steps_of_plan_trees()
     // promise: steps-of-plan-trees (steps_of)
     ensures three { (T : PlanTree) (p : ℕ) → ((node : ℕ) → looks_at T node p ≡ false)
@@ -52,8 +56,8 @@ pub fn steps_of_plan_trees()
         → (place_of T p i).node < nodes_of T }
 {}
 
-/// A tree whose nodes are witnesses has judgements with which it is a plan tree, and a plan tree has
-/// no others at its nodes than witnesses.
+/// A tree whose nodes are witnesses has judgements with which it is a plan tree, and a plan tree
+/// has no others at its nodes than witnesses.
 pub fn witnesses_make_plan_trees()
     // promise: witnesses-make-plan-trees (AreWitnesses)
     ensures judgement { (T : PlanTree) → AreWitnesses T
@@ -64,8 +68,8 @@ pub fn witnesses_make_plan_trees()
     witnesses_are_judged();
 }
 
-/// Operations of k teams that part have a plan tree for every number of processes, with as many levels
-/// as the logarithm to the base k says, rounded up:
+/// Operations of k teams that part have a plan tree for every number of processes, with as many
+/// levels as the logarithm to the base k says, rounded up:
 ///
 /// - `tree`, `teams`: a tree with k teams at each node is a plan tree;
 /// - `levels`, `processes`: with h + 1 levels it has k to the power of h + 1 processes.
@@ -87,8 +91,9 @@ pub fn parting_operations_make_plan_trees()
     parting_operations_are_told();
 }
 
-/// One witness serves all nodes of a tree whose teams fit it: at each node each process takes a role
-/// of its team. So the tournament of a witness of two teams (Ruppert, 2000) is a tree of witnesses:
+/// One witness serves all nodes of a tree whose teams fit it: at each node each process takes a
+/// role of its team. So the tournament of a witness of two teams (Ruppert, 2000) is a tree of
+/// witnesses:
 ///
 /// - `one_witness`: a tree with one meeting at all nodes;
 /// - `tournament`: the tournament of the witness of a choice;
@@ -120,8 +125,9 @@ pub fn tournaments_are_trees_of_witnesses()
     witnesses_of_choices();
 }
 
-/// A sticky bit for four processes, as a balanced tree: three bits, and six steps of each process. In
-/// a run in which process 3 goes first, all decide its input, and not before their sixth step.
+/// A sticky bit for four processes, as a balanced tree: three bits, and six steps of each process.
+/// In a run in which process 3 goes first, process 0 decides its input too, and process 1 has not
+/// decided after five steps.
 pub fn four_processes_of_a_sticky_bit()
     // promise: examples-of-plan-trees
     ensures tree { IsPlanTree four_of_a_sticky_bit }
@@ -132,13 +138,13 @@ pub fn four_processes_of_a_sticky_bit()
     // promise: examples-of-plan-trees
     ensures steps { (p : ℕ) → p < 4 → steps_of four_of_a_sticky_bit p ≡ 6 }
     // promise: examples-of-plan-trees
-    ensures decided { decision (world_after four_of_a_sticky_bit (λ p. 10 + p) third_goes_first) 3
+    ensures decided { decision (world_after four_of_a_sticky_bit (λ p. 10 + p) last_goes_first) 3
         ≡ Some 13 }
     // promise: examples-of-plan-trees
-    ensures follows { decision (world_after four_of_a_sticky_bit (λ p. 10 + p) third_goes_first) 0
+    ensures follows { decision (world_after four_of_a_sticky_bit (λ p. 10 + p) last_goes_first) 0
         ≡ Some 13 }
     // promise: examples-of-plan-trees
-    ensures undecided { decision (world_after four_of_a_sticky_bit (λ p. 10 + p) third_goes_first) 1
+    ensures undecided { decision (world_after four_of_a_sticky_bit (λ p. 10 + p) last_goes_first) 1
         ≡ None }
 {
     examples_of_parting_operations();
@@ -146,8 +152,8 @@ pub fn four_processes_of_a_sticky_bit()
     steps_of_plan_trees();
 }
 
-/// Compare-and-swap from one value to k others, as one node with k teams: one object, and three steps
-/// of each of k processes.
+/// Compare-and-swap from one value to k others, as one node with k teams: one object, and three
+/// steps of each of k processes.
 pub fn one_node_of_compare_and_swap()
     // promise: examples-of-plan-trees
     ensures tree { (k : ℕ) → IsPlanTree (one_compare_and_swap k) }
