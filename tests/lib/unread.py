@@ -25,6 +25,14 @@ MOST_PLAYED = 8
 Bounds = collections.namedtuple("Bounds", "at_least at_most least_by most_by witness trap")
 
 
+def bounds_told(answer):
+    """Both bounds of an answer of the program as JSON: a number, "infinite", or an object with bounds."""
+    if isinstance(answer, dict):
+        return answer["at_least"], answer.get("at_most", INFINITE)
+    number = INFINITE if answer == "infinite" else answer
+    return number, number
+
+
 # Merging
 
 

@@ -98,6 +98,10 @@ class Jobs:
         for n, inputs in (("2", "1,2"), ("3", "1,2,3")):
             self.run(["agree", "--recoverable", "--processes", n, "--steps", "--as", "json", "-", inputs, CRASHES], table)
         self.run(["classify", "--limit", "3", "T", "-", "T"], table, T=table)
+        unread = self.run(["find", "--without-read"], table)
+        if 0 < len(unread) < MOST_CERTIFICATE:
+            self.run(["check", "--without-read", "C"], table, C=unread)
+            self.run(["check", "--without-read", "--as", "json", "C"], table, C=unread.replace(b'"at_least":2', b'"at_least":3'))
         certificate = self.run(["find", "--limit", "4"], table)
         if not 0 < len(certificate) < MOST_CERTIFICATE:
             return
@@ -118,7 +122,7 @@ class Jobs:
     def of_words(self):
         refused = [["find", "--limit", "9"], ["find", "--limit", "0"], ["find", "--limit", "x"], ["find"], ["nosuch"], [], ["lint", "extra"]]
         refused += [["check", "missing"], ["check", "constructor"], ["show", "--as", "x", "C"], ["lint", "\xe4"], ["why", "--recoverable", "--limit", "3", "-"]]
-        refused += [["classify", "--without-read", "--limit", "3", "-"], ["why", "--without-read", "--recoverable", "-"]]
+        refused += [["classify", "--without-read", "--limit", "3", "-"], ["why", "--without-read", "--recoverable", "-"], ["find", "--without-read", "--limit", "3"]]
         for words in [*refused, ["--help"], ["-h"], ["--version"], ["help"], *([it, "--help"] for it in COMMANDS)]:
             self.run(words, BIT)
 

@@ -251,7 +251,7 @@ Cnum.languages.de.texts = {
     got_in_both: 'was jeder Prozess in beiden Läufen bekommt',
     runs_same: '{process} bekommt in beiden Läufen dasselbe, und nach jedem ist das Objekt im Zustand {state}. Was auch immer {process} als Nächstes tut, bekommt er in beiden dasselbe. Also entscheidet er in beiden dasselbe.',
     runs_nothing: '{process} bekommt in keinem der Läufe etwas, und nach jedem ist das Objekt im Zustand {state}. Was auch immer {process} als Nächstes tut, bekommt er in beiden dasselbe. Also entscheidet er in beiden dasselbe.',
-    runs_endless: 'Hier kommen keine zwei solchen Läufe zu einem Ende: der Gegner kann für immer weitermachen, und kein Prozess kommt zu einer Entscheidung.',
+    runs_endless: 'Zwei solche Läufe mit einem Ende wurden nicht gefunden: der Gegner kann für immer weitermachen, und kein Prozess kommt zu einer Entscheidung.',
     runs_positions: 'Was auch immer die Prozesse als Nächstes tun, der Gegner hat solche Läufe: {positions} Stellungen zeigen es, mit einem Zug in jeder.',
     why_proved_unread: 'Kein Protokoll überhaupt schafft es für {count} ohne Lesen: das ist bewiesen.',
     why_not_read: 'Warum nicht {count}: nicht einmal, wenn diese Zustände gelesen werden können',

@@ -252,7 +252,7 @@ Cnum.languages.en.texts = {
     got_in_both: 'what each process gets in both runs',
     runs_same: '{process} gets the same in both runs, and the object is in state {state} after each. Whatever {process} does next, it gets the same in both. So it decides the same in both.',
     runs_nothing: '{process} gets nothing in either run, and the object is in state {state} after each. Whatever {process} does next, it gets the same in both. So it decides the same in both.',
-    runs_endless: 'No two such runs come to an end here: the adversary can go on for ever, and no process comes to a decision.',
+    runs_endless: 'No two such runs with an end were found: the adversary can go on for ever, and no process comes to a decision.',
     runs_positions: 'Whatever the processes do next, the adversary has such runs: {positions} positions show it, with a move in each.',
     why_proved_unread: 'No protocol at all does it for {count} without reads: this is proved.',
     why_not_read: 'Why not {count}: not even if these states can be read',

@@ -20,7 +20,7 @@ use Rattle.cn_further.specs.declared.stage.Stage.TheVariants.{Waiting}
 pair_same : (x y : ℕ × ℕ) → (x.0 ≡ y.0) × (x.1 ≡ y.1) → x ≡ y
 pair_same x y p = λ i. (p.0 i, p.1 i)
 
-pair_parts : (x y : ℕ × ℕ) → x ≡ y → (x.0 ≡ y.0) × (x.1 ≡ y.1)
+pub pair_parts : (x y : ℕ × ℕ) → x ≡ y → (x.0 ≡ y.0) × (x.1 ≡ y.1)
 pair_parts x y e = (ap (λ (z : ℕ × ℕ). z.0) e, ap (λ (z : ℕ × ℕ). z.1) e)
 
 pub same_kept_decides : (x y : ℕ × ℕ) → Decides (same_kept x y) (x ≡ y)

@@ -1,3 +1,4 @@
 pub mod FurtherNodes
+pub mod FurtherSights
 pub mod Meetings
 pub mod SceneLists

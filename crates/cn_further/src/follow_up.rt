@@ -18,7 +18,11 @@ pub struct FollowUp {
 }
 
 /// The further operation of the first follow-up for both, if there is one.
-fn further_of(follow_ups: &[FollowUp], own: Operation, answer: Response) -> Option<Operation>
+pub(crate) fn further_of(
+    follow_ups: &[FollowUp],
+    own: Operation,
+    answer: Response,
+) -> Option<Operation>
     ensures { option_map (λ o. o.0) result ≡ further_of follow_ups.now own.0 answer.0 }
 {
     for follow_up in follow_ups {

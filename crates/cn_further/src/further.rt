@@ -1,11 +1,14 @@
 //! Choices with further operations.
-ghost use Rattle.std.specs.Prelude.{◌≡◌, ◌≤◌, ◌+◌, ◌++◌, ◌↔◌, IfOk, IfSome, IsTrue, length};
+ghost use Rattle.std.specs.Prelude.{◌≡◌, ◌≤◌, ◌+◌, ◌++◌, ◌↔◌, All, IfOk, IfSome, IsTrue, length};
 ghost use Rattle.cn_choice.specs.Canonical.{IsChoiceFor};
 ghost use Rattle.cn_choice.specs.declared.limits.TheConstants.{MOST_PROCESSES};
 ghost use Rattle.cn_further.specs.FurtherNodes.{AreKnown, TellsFirst};
+ghost use Rattle.cn_further.specs.FurtherSights.{AreFurtherSights, IsKnownSight};
 
 use crate::follow_up::{FollowUp, are_of};
 use crate::meeting::meeting_in;
+use crate::sight::FurtherSight;
+use crate::sights::sights;
 use crate::walk::walk;
 use arrayvec::ArrayVec;
 use cn_choice::laws::choice_by_teams;
@@ -94,5 +97,34 @@ impl Further {
             return Ok(Some(false));
         }
         is_shown(alloc, table, &self.choice, follow_ups)
+    }
+
+    /// What each of n processes can have got when it has finished, by the team that was first: by
+    /// the team, and then by the number of operations that are done when it comes first. Each is
+    /// there once, and comes in some run.
+    ///
+    /// It goes through all scenes, that is states of the object with what all processes have got.
+    /// Where [`Further::tells`] answers, these are at most 20,000.
+    ///
+    /// # Errors
+    ///
+    /// `AllocError` if memory runs out.
+    pub fn sights(
+        &self,
+        alloc: Global,
+        table: &Table,
+        n: u8,
+    ) -> Result<Vec<FurtherSight>, AllocError>
+        requires few { n ≤ MOST_PROCESSES }
+        requires choice { IsChoiceFor table.now n self.now.choice }
+        requires known { AreKnown table.now (self.now.choice.a ++ self.now.choice.b)
+            self.now.follow_ups.items }
+        // promise: further-operations-sights (AreFurtherSights)
+        ensures sights { IfOk result (λ list.
+            AreFurtherSights table.now self.now.choice self.now.follow_ups.items list.items) }
+        // promise: further-operations-sights
+        ensures known { IfOk result (λ list. All (IsKnownSight table.now) list.items) }
+    {
+        sights(alloc, table, &self.choice, self.follow_ups.as_slice())
     }
 }

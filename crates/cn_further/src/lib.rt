@@ -15,10 +15,13 @@
 
 mod follow_up;
 mod further;
+mod levels;
 mod listing;
 mod meeting;
 mod scene;
 mod search;
+mod sight;
+mod sights;
 mod stage;
 #[cfg(test)]
 mod tests;
@@ -27,3 +30,4 @@ mod walk;
 pub use follow_up::FollowUp;
 pub use further::Further;
 pub use search::find_further;
+pub use sight::{FurtherAnswer, FurtherSight};

@@ -1,9 +1,11 @@
 //! Scenes: the object, and how far each process has come.
-ghost use Rattle.std.specs.Prelude.{◌≡◌, ◌<◌, ◌≤◌, ◌↔◌, ℕ, IsTrue, length};
+ghost use Rattle.std.specs.Prelude.{◌≡◌, ◌+◌, ◌<◌, ◌≤◌, ◌↔◌, ℕ, IsTrue, length, slice_index_or, sum_by};
 ghost use Rattle.cn_table.specs.TypeTable.{transition};
 ghost use Rattle.cn_choice.specs.declared.limits.TheConstants.{MOST_PROCESSES};
 ghost use Rattle.cn_unread.specs.Functions.{put};
 ghost use Rattle.cn_further.specs.FurtherNodes.{AreKnown, further_of, kept_with};
+ghost use Rattle.cn_further.specs.FurtherSights.{operations_done};
+ghost use Rattle.cn_further.specs.declared.stage.Stage.{Stage as StageOf};
 ghost use Rattle.cn_further.specs.SceneLists.{AgreeFor, IsSceneOf, first_scene, kept_at, kept_of, scene_next, scene_of};
 
 use crate::follow_up::{FollowUp, next_operation};
@@ -103,7 +105,7 @@ impl Scene {
     }
 
     /// The scene after the process has done the operation.
-    fn moved(&self, table: &Table, process: usize, operation: Operation) -> Scene
+    pub(crate) fn moved(&self, table: &Table, process: usize, operation: Operation) -> Scene
         requires state { self.now.object.0 < length table.now.states }
         requires process { process < length self.now.stages.items }
         requires operation { operation.0 < length table.now.operations }
@@ -115,6 +117,9 @@ impl Scene {
             ≡ put (kept_at self.now.stages.items) process
             (kept_with (kept_at self.now.stages.items process)
             (transition table.now operation.0 self.now.object.0).0) j }
+        ensures done { (stage : StageOf) → operations_done (slice_index_or self.now.stages.items
+            process stage) < 2 → sum_by operations_done result.stages.items
+            ≡ sum_by operations_done self.now.stages.items + 1 }
     {
         let (response, object) = table.apply(operation, self.object);
         let stage = self.stages.as_slice()[process].with(response);

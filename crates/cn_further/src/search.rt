@@ -178,6 +178,9 @@ pub fn find_further(
 {
     let mut tries = most;
     for choice in Choices::new(table, n) {
+        if tries == 0 {
+            return Ok(None);
+        }
         if n > 2 && shares_an_operation(&choice) {
             continue;
         }

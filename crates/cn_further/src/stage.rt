@@ -1,6 +1,7 @@
 //! How far processes have come.
-ghost use Rattle.std.specs.Prelude.{◌≡◌, ◌<◌, ℕ, IsTrue, length, slice_set};
+ghost use Rattle.std.specs.Prelude.{◌≡◌, ◌+◌, ◌<◌, ℕ, IsTrue, length, slice_set};
 ghost use Rattle.cn_further.specs.FurtherNodes.{kept_with};
+ghost use Rattle.cn_further.specs.FurtherSights.{operations_done};
 ghost use Rattle.cn_further.specs.SceneLists.{kept_at, kept_of, same_kept};
 
 use arrayvec::ArrayVec;
@@ -42,7 +43,9 @@ impl Stage {
 
     /// The stage after one more response.
     pub(crate) fn with(self, response: Response) -> Stage
-        ensures { kept_of result ≡ kept_with (kept_of self) response.0 }
+        ensures kept { kept_of result ≡ kept_with (kept_of self) response.0 }
+        ensures done { operations_done self < 2
+            → operations_done result ≡ operations_done self + 1 }
     {
         match self {
             Stage::Waiting => Stage::Moved(response),

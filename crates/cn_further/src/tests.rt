@@ -1,9 +1,9 @@
 //! Tests of what no contract says: which further operations tell the teams, and that the search
 //! finds them.
 
-use crate::{FollowUp, Further, find_further};
+use crate::{FollowUp, Further, FurtherAnswer, FurtherSight, find_further};
 use arrayvec::ArrayVec;
-use cn_choice::Choice;
+use cn_choice::{Choice, Team};
 use cn_table::{Operation, Response, State, Table, read_table};
 use std::alloc::Global;
 use std::test::Fail;
@@ -113,5 +113,39 @@ fn none_is_found_for_more(rt: HostRuntime) -> Result<(), Fail> {
     let table = queue_of_one(rt.alloc())?;
     assert!(rt; find_further(rt.alloc(), &table, 2, 10_000)?.is_some());
     assert!(rt; find_further(rt.alloc(), &table, 3, 10_000)?.is_none());
+    Ok(())
+}
+
+#[test]
+fn the_further_swap_is_seen(rt: HostRuntime) -> Result<(), Fail> {
+    let table = swaps(rt.alloc())?;
+    let further = find_further(rt.alloc(), &table, 3, 1_000)?.ok_or("none for three")?;
+    let sights = further.sights(rt.alloc(), &table, 3)?;
+    let (yes, no) = (Response(0), Response(1));
+    // A process sees its own swap, or that it was late and what the further swap answers.
+    let seen = [
+        (0, Team::A, yes, None),
+        (0, Team::B, no, None),
+        (1, Team::A, no, Some(no)),
+        (1, Team::B, yes, None),
+        (1, Team::B, no, Some(yes)),
+        (2, Team::A, no, Some(no)),
+        (2, Team::B, yes, None),
+        (2, Team::B, no, Some(yes)),
+    ];
+    assert!(rt; sights.len() == seen.len());
+    for (process, first, response, answer) in seen {
+        let further = answer.map(|response| FurtherAnswer {
+            operation: Operation(5),
+            response,
+        });
+        let sight = FurtherSight {
+            process,
+            first,
+            response,
+            further,
+        };
+        assert!(rt; sights.contains(&sight), "{sight:?}");
+    }
     Ok(())
 }

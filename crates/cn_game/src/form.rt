@@ -1,5 +1,6 @@
-//! Positions in canonical form: no process is lost, and the standings are in order. Positions that
-//! differ in the order of processes or in lost ones alone have one canonical form.
+//! Positions in canonical form: no process is lost, and the standings are in order, those of processes
+//! that are ahead first. Positions that differ in the order of processes or in lost ones alone have one
+//! canonical form.
 
 use crate::board::{Board, Standing};
 use arrayvec::ArrayVec;
@@ -11,9 +12,9 @@ pub(crate) const HASHES: usize = 16_384;
 /// What standings are in order of: the kind, the operation and the response.
 fn key(standing: Standing) -> (u8, u8, u8) {
     match standing {
-        Standing::Poised(o) => (0, o.0, 0),
-        Standing::AheadInFirst(o, r) => (1, o.0, r.0),
-        Standing::AheadInSecond(o, r) => (2, o.0, r.0),
+        Standing::AheadInFirst(o, r) => (0, o.0, r.0),
+        Standing::AheadInSecond(o, r) => (1, o.0, r.0),
+        Standing::Poised(o) => (2, o.0, 0),
         Standing::Lost => (3, 0, 0),
     }
 }

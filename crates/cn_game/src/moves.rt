@@ -15,6 +15,20 @@ pub(crate) struct Move {
 }
 
 impl Move {
+    /// The move with this number: those of a process that is ahead come first, since they leave fewer
+    /// moves that wait for an answer.
+    pub(crate) fn numbered(number: u8) -> Move {
+        let run = if number % 2 == 0 {
+            Run::First
+        } else {
+            Run::Second
+        };
+        Move {
+            process: number / 2,
+            run,
+        }
+    }
+
     /// Whether the position, in canonical form, has this move, and the process in front of it has
     /// another standing. Processes with one standing have the same moves.
     pub(crate) fn is_of(self, board: &Board) -> bool {

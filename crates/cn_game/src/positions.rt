@@ -32,15 +32,16 @@ struct Entry {
     before: Option<usize>,
     /// The last of the uses of the position as an answer.
     last_use: Option<usize>,
-    /// The places of its recorded moves, from the first to behind the last, once it is expanded.
-    moves: Option<(usize, usize)>,
-    /// How many of these moves have no answer in which the protocol is known to hold out.
-    hopes: usize,
+    /// The number of its next move that has not been tried.
+    next: u8,
+    /// The record of the move that was tried last.
+    tried: Option<usize>,
     /// The number of the round that looked at it last.
     round: usize,
 }
 
-/// A move of a position none of whose answers was known to hold out when it was recorded.
+/// A move of a position that was tried: the protocol held out in none of its answers, as far as was
+/// known then.
 #[derive(Clone, Copy)]
 struct Record {
     position: usize,
@@ -99,8 +100,8 @@ impl Entry {
             verdict,
             before,
             last_use: None,
-            moves: None,
-            hopes: 0,
+            next: 0,
+            tried: None,
             round: 0,
         }
     }
@@ -201,17 +202,27 @@ impl Positions {
         self.uses.get(place?).copied()
     }
 
-    /// The places of the recorded moves of the position.
-    fn moves_of(&self, place: usize) -> Option<(usize, usize)> {
+    /// The number of the next move of the position that has not been tried.
+    fn next_of(&self, place: usize) -> Option<u8> {
         let entry = self.entries.get(place)?;
-        entry.moves
+        Some(entry.next)
     }
 
-    /// Whether the moves of the position are recorded.
-    pub fn is_expanded(&self, place: usize) -> bool {
-        match self.entries.get(place) {
-            Some(entry) => entry.moves.is_some(),
-            None => true,
-        }
+    /// Whether a move of the position has been tried.
+    pub fn is_begun(&self, place: usize) -> bool {
+        self.next_of(place) != Some(0)
+    }
+
+    /// The record of the move of the position that is pursued: the last one that was tried, unless
+    /// the protocol has an answer to it.
+    fn pursued(&self, place: usize) -> Option<Record> {
+        let entry = self.entries.get(place)?;
+        let record = self.records.get(entry.tried?)?;
+        if record.is_met { None } else { Some(*record) }
+    }
+
+    /// Whether the position is open, and no move of it is pursued.
+    pub fn is_at_rest(&self, place: usize) -> bool {
+        self.verdict(place).is_open() && self.pursued(place).is_none()
     }
 }

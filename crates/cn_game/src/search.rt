@@ -15,6 +15,33 @@ use cn_choice::{Choices, MOST_PROCESSES, RawChoice, Team};
 use cn_table::Table;
 use std::alloc::{AllocError, Global};
 
+/// Whether a start in which a has moved first in the first run is a leaf.
+fn leads_to_leaf(table: &Table, choice: &RawChoice, a: u8) -> bool
+    requires known { IsRawChoice table.now (length choice.now.operations) choice.now }
+    requires a { a < length choice.now.operations }
+    requires few { length choice.now.operations ≤ MOST_PROCESSES }
+{
+    for b in 0..choice.operations.len() as u8 {
+        if plays_for(choice, b, Team::B) && Board::start(table, choice, a, b).is_leaf() {
+            return true;
+        }
+    }
+    false
+}
+
+/// Whether a start of the choice is a leaf.
+fn begins_in_leaf(table: &Table, choice: &RawChoice) -> bool
+    requires known { IsRawChoice table.now (length choice.now.operations) choice.now }
+    requires few { length choice.now.operations ≤ MOST_PROCESSES }
+{
+    for a in 0..choice.operations.len() as u8 {
+        if plays_for(choice, a, Team::A) && leads_to_leaf(table, choice, a) {
+            return true;
+        }
+    }
+    false
+}
+
 /// Adds the starts in which a has moved first in the first run.
 fn add_starts_with(
     table: &Table,
@@ -102,8 +129,35 @@ fn lost_start(
     }
 }
 
-/// A lost start of each live canonical choice for n processes; `None` if the walk finds none for
-/// one of them.
+/// Adds a lost start of the choice, unless one is a leaf, which needs no turn. Answers whether the walk
+/// finds one.
+fn add_lost_start(
+    alloc: Global,
+    table: &Table,
+    choice: &RawChoice,
+    walk: &mut Walk,
+    starts: &mut Vec<usize>,
+) -> Result<bool, AllocError>
+    requires known { IsRawChoice table.now (length choice.now.operations) choice.now }
+    requires few { length choice.now.operations ≤ MOST_PROCESSES }
+{
+    if begins_in_leaf(table, choice) {
+        return Ok(true);
+    }
+    if walk.is_full() {
+        return Ok(false);
+    }
+    match lost_start(alloc, table, choice, walk)? {
+        Some(start) => {
+            starts.push(start)?;
+            Ok(true)
+        }
+        None => Ok(false),
+    }
+}
+
+/// Lost starts of all live canonical choices for n processes, but of those that begin in a leaf;
+/// `None` if the walk finds none for one of them.
 fn lost_starts(
     alloc: Global,
     table: &Table,
@@ -116,16 +170,18 @@ fn lost_starts(
     live_list();
     let mut starts = Vec::new(alloc);
     for choice in Choices::new(table, n) {
-        let Some(start) = lost_start(alloc, table, &RawChoice::of(&choice), walk)? else {
+        if !add_lost_start(alloc, table, &RawChoice::of(&choice), walk, &mut starts)? {
             return Ok(None);
-        };
-        starts.push(start)?;
+        }
     }
     Ok(Some(starts))
 }
 
 /// A trap for all choices for n processes, if one is found among fewer than `most` positions. n is
 /// from 2 to [`MOST_PROCESSES`](cn_choice::MOST_PROCESSES).
+///
+/// It decides positions by the moves of the adversary, one move of a position after the other, those
+/// of a process that is ahead first.
 ///
 /// The type of a table with a trap is not defended for n. Where none is found it may be.
 ///

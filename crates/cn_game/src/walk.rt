@@ -1,7 +1,6 @@
 //! The walk through the positions of the game, by which it is decided in which ones the protocol
 //! holds out.
 
-use crate::board::Board;
 use crate::positions::{Positions, Verdict};
 use cn_table::Table;
 use std::alloc::{AllocError, Global};
@@ -86,8 +85,8 @@ impl Walk {
         self.seen.truncate(round.seen);
     }
 
-    /// Goes on with the last round: looks at one more position. If none waits, those that are open
-    /// are lost, since each has a move that leads to one of them again.
+    /// Goes on with the last round: looks at one more position. If none waits, and a move of each that
+    /// is open is pursued, these are lost, since these moves lead to one of them again.
     fn go_on(&mut self, alloc: Global, table: &Table, round: Round) -> Result<(), AllocError> {
         if !self.positions.verdict(round.root).is_open() {
             self.end(round);
@@ -98,10 +97,42 @@ impl Walk {
                 return self.look(alloc, table, round, place);
             }
         }
+        if self.goes_on_from_seen(alloc, table, round)? {
+            return Ok(());
+        }
         if let Some(seen) = self.seen.get(round.seen..) {
             self.positions.lose(seen)?;
         }
         self.end(round);
+        Ok(())
+    }
+
+    /// Goes on from the seen positions whose moves so far have an answer. Answers whether there are
+    /// some.
+    fn goes_on_from_seen(
+        &mut self,
+        alloc: Global,
+        table: &Table,
+        round: Round,
+    ) -> Result<bool, AllocError> {
+        let mut goes_on = false;
+        for index in round.seen..self.seen.len() {
+            if let Some(place) = self.seen.get(index).copied() {
+                if self.positions.is_at_rest(place) {
+                    self.pursue(alloc, table, place)?;
+                    goes_on = true;
+                }
+            }
+        }
+        Ok(goes_on)
+    }
+
+    /// Tries moves of the position, and goes on to the answers of one.
+    fn pursue(&mut self, alloc: Global, table: &Table, place: usize) -> Result<(), AllocError> {
+        if let Some(board) = self.positions.board(place) {
+            self.positions.try_moves(alloc, table, place, &board)?;
+            self.positions.add_open_answers(place, &mut self.waiting)?;
+        }
         Ok(())
     }
 
@@ -116,30 +147,19 @@ impl Walk {
         if !self.positions.verdict(place).is_open() || self.positions.is_seen(place, round.number) {
             return Ok(());
         }
-        if !self.positions.is_expanded(place) {
-            let Some(board) = self.positions.board(place) else {
-                return Ok(());
-            };
-            if self.waits_for_part(place, &board)? {
-                return Ok(());
-            }
-            self.positions.expand(alloc, table, place, &board)?;
+        if !self.positions.is_begun(place) && self.waits_for_part(place)? {
+            return Ok(());
         }
-        self.follow(round, place)
-    }
-
-    /// Goes on to what can come of an open position whose moves are recorded.
-    fn follow(&mut self, round: Round, place: usize) -> Result<(), AllocError> {
-        if self.positions.verdict(place).is_open() {
-            self.positions.see(place, round.number);
-            self.seen.push(place)?;
-            self.positions.add_open_answers(place, &mut self.waiting)?;
-        }
-        Ok(())
+        self.positions.see(place, round.number);
+        self.seen.push(place)?;
+        self.pursue(alloc, table, place)
     }
 
     /// Whether the position is lost by one of its parts, or has to wait for a round about one.
-    fn waits_for_part(&mut self, place: usize, board: &Board) -> Result<bool, AllocError> {
+    fn waits_for_part(&mut self, place: usize) -> Result<bool, AllocError> {
+        let Some(board) = self.positions.board(place) else {
+            return Ok(false);
+        };
         for process in 0..board.standings.len() {
             let part = self.positions.place_of(board.without(process))?;
             if self.is_kept_by(place, part)? {

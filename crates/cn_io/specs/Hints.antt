@@ -98,7 +98,8 @@ table_hint f file linted reason = lint_hint file linted
 abbrev pub certificate_hint : CertFault → Option (List ℕ)
 certificate_hint cert.NotJson = Some (codes "a certificate is one JSON object, as find writes it")
 certificate_hint cert.WrongShape = Some (codes
-    "a certificate has these keys alone: collisions, limit, number, type, version, witness")
+    "a certificate has these keys alone: collisions, limit, number, type, version, witness; "
+    ++ codes "check --without-read is for one of find --without-read")
 certificate_hint cert.Version = Some (codes "the version of a certificate is 1 or 2")
 certificate_hint cert.Range = Some (codes
     "a number or a list is too great for a certificate, or the type has no right name")
@@ -109,7 +110,8 @@ abbrev pub unread_certificate_hint : UnreadCertFault → Option (List ℕ)
 unread_certificate_hint unread_cert.NotJson =
     Some (codes "a certificate is one JSON object, as find --without-read writes it")
 unread_certificate_hint unread_cert.WrongShape =
-    Some (codes "it has these keys alone: at_least, at_most, least, most, type, version")
+    Some (codes "a certificate without reads has these keys alone: "
+    ++ codes "at_least, at_most, least, most, type, version")
 unread_certificate_hint unread_cert.Version =
     Some (codes "the version of a certificate without reads is 4")
 unread_certificate_hint unread_cert.Range = Some (codes

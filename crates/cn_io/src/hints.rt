@@ -120,7 +120,8 @@ fn certificate_hint(fault: CertFault) -> Option<Hint<'static>>
     Some(Hint::Says(match fault {
         CertFault::NotJson => "a certificate is one JSON object, as find writes it",
         CertFault::WrongShape => {
-            "a certificate has these keys alone: collisions, limit, number, type, version, witness"
+            "a certificate has these keys alone: collisions, limit, number, type, version, witness; \
+             check --without-read is for one of find --without-read"
         }
         CertFault::Version => "the version of a certificate is 1 or 2",
         CertFault::Range =>
@@ -137,7 +138,8 @@ fn unread_certificate_hint(fault: UnreadCertFault) -> Option<Hint<'static>>
             "a certificate is one JSON object, as find --without-read writes it"
         }
         UnreadCertFault::WrongShape => {
-            "it has these keys alone: at_least, at_most, least, most, type, version"
+            "a certificate without reads has these keys alone: \
+             at_least, at_most, least, most, type, version"
         }
         UnreadCertFault::Version => "the version of a certificate without reads is 4",
         UnreadCertFault::Range => {

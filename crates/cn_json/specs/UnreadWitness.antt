@@ -1,18 +1,17 @@
 -- The witnesses of a number without reads as JSON values: what processes can get, and signs.
-use Rattle.std.specs.Prelude.{ℕ, ◌==◌, List, codes, if◌then◌else◌, length}
+use Rattle.std.specs.Prelude.{ℕ, List, codes}
 use Rattle.serde_json.specs.Data.{Data, array, member, no_members, object}
 use Rattle.serde_json.specs.View.{items_of}
 use Rattle.cn_table.specs.Names.{name_at}
 use Rattle.cn_table.specs.TypeTable.{TypeTable, operation_names}
 use Rattle.cn_choice.specs.TeamNames.{team_name}
 use Rattle.cn_further.specs.declared.follow_up.FollowUp.{FollowUp}
-use Rattle.cn_reasons.specs.declared.group.ChoiceGroups.{ChoiceGroups}
 use Rattle.cn_unread_reasons.specs.declared.sight.Answer.{Answer}
 use Rattle.cn_unread_reasons.specs.declared.sight.UnreadSight.{UnreadSight}
 use Rattle.cn_unread_reasons.specs.declared.signs.SignWitness.{SignWitness}
 use Rattle.cn_unread_reasons.specs.declared.witness.UnreadView.{UnreadView}
 use Rattle.cn_unread_reasons.specs.declared.witness.UnreadWitness.{UnreadWitness}
-use Rattle.cn_json.specs.Choices.{of_processes, processes_data}
+use Rattle.cn_json.specs.Choices.{of_processes}
 use Rattle.cn_json.specs.Names.{operation_data, response_data, state_data}
 use Rattle.cn_json.specs.Values.{list_data, text_data}
 
@@ -43,17 +42,17 @@ follow_up_data t f =
     (member (codes "operation") (operation_data t f.operation)
     (member (codes "response") (response_data t f.response) no_members)))
 
--- the processes of a choice, with what they can get if that is told
-abbrev pub witness_processes : TypeTable → ChoiceGroups → List UnreadView → Data
-witness_processes t c views = if length views == 0 then processes_data t c
-    else array (items_of (of_processes (λ v. v.group.count) (unread_process t) views))
+-- the processes of all groups, with what they can get
+abbrev pub witness_processes : TypeTable → List UnreadView → Data
+witness_processes t views =
+    array (items_of (of_processes (λ v. v.group.count) (unread_process t) views))
 
 -- a choice with which each process can tell, and what processes do behind their operations
 unfoldable pub unread_witness_data : TypeTable → UnreadWitness → Data
 unread_witness_data t w =
     object (member (codes "follow_ups") (list_data (follow_up_data t) w.follow_ups.items)
     (member (codes "looks") (list_data (operation_data t) w.looks.items)
-    (member (codes "processes") (witness_processes t w.choice w.views.items)
+    (member (codes "processes") (witness_processes t w.views.items)
     (member (codes "start") (state_data t w.choice.start) no_members))))
 
 -- the name of the operation of a number

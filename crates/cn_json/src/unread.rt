@@ -190,9 +190,9 @@ fn write_explanation(out: &mut JsonText, explanation: &UnreadExplanation) -> Res
 /// - `without_read`: what is known of the number, as in a [`Classification`](crate::Classification);
 /// - `witness`: `null`, or its `start` state; the `looks`, which each process does after its
 ///   operation; the `follow_ups`, each of a `further` operation behind an `operation` and a
-///   `response`; and its `processes`. If there are no `follow_ups`, a process has what it can get
-///   where a process of team A is first, `a_first`, and where one of team B is, `b_first`: the
-///   `response` to its operation, and then the `answers`.
+///   `response`; and its `processes`, each with what it can get where a process of team A is first,
+///   `a_first`, and where one of team B is, `b_first`: the `response` to its operation, and then the
+///   `answers`.
 ///
 /// # Errors
 ///

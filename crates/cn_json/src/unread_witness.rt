@@ -1,6 +1,5 @@
 //! The witnesses of a number without reads as JSON: what processes can get, and signs.
 ghost use Rattle.std.specs.Prelude.{◌<◌, All, codes, length};
-ghost use Rattle.cn_reasons.specs.Known.{IsKnownChoice};
 ghost use Rattle.cn_unread_reasons.specs.Known.{IsKnownAnswer, IsKnownFollowUp, IsKnownSigns, IsKnownUnreadSight, IsKnownUnreadView, IsKnownUnreadWitness};
 ghost use Rattle.cn_json.specs.Tokens.{Appends, list_rest, member_tokens};
 ghost use Rattle.cn_json.specs.UnreadWitness.{answer_data, follow_up_data, operation_number_data, signs_data, unread_process, unread_sight_data, unread_witness_data, witness_processes};
@@ -10,7 +9,6 @@ use crate::json_text::JsonText;
 use crate::json_text::Primitive::Text;
 use crate::value::{JsonValue, OfProcesses};
 use cn_further::FollowUp;
-use cn_reasons::ChoiceGroups;
 use cn_table::{Operation, Table};
 use cn_unread_reasons::{Answer, SignWitness, UnreadSight, UnreadView, UnreadWitness};
 use std::alloc::AllocError;
@@ -81,22 +79,16 @@ impl JsonValue for FollowUp {
     }
 }
 
-/// Writes the processes of a choice with what they get; if that is not told, with their operations
-/// and teams alone.
+/// Writes the processes of the groups, with what they get.
 fn write_processes(
     out: &mut JsonText,
     table: &Table,
-    choice: &ChoiceGroups,
     views: &[UnreadView],
 ) -> Result<(), AllocError>
-    requires choice { IsKnownChoice table.now choice.now }
-    requires views { All (IsKnownUnreadView table.now) views.now }
+    requires { All (IsKnownUnreadView table.now) views.now }
     ensures { Appends result out.old out.new
-        (member_tokens (codes "processes") (witness_processes table.now choice.now views.now)) }
+        (member_tokens (codes "processes") (witness_processes table.now views.now)) }
 {
-    if views.is_empty() {
-        return out.processes_of(table, choice);
-    }
     out.begin_array_at("processes")?;
     out.last_processes(table, views)
 }
@@ -110,7 +102,7 @@ impl JsonValue for UnreadWitness {
         out.begin_object()?;
         out.array_at("follow_ups", table, &self.follow_ups)?;
         out.array_at("looks", table, &self.looks)?;
-        write_processes(out, table, &self.choice, &self.views)?;
+        write_processes(out, table, &self.views)?;
         out.last_members(&[("start", Text(table.state_name(self.choice.start)))])
     }
 }

@@ -1,2 +1,3 @@
 pub mod OneAccess
 pub mod Races
+pub mod Unread

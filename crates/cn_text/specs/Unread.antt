@@ -1,7 +1,7 @@
 -- The text of an explanation of a number without reads: the number, the table, why the number is so
 -- much, and why it is no more.
 use Rattle.std.specs.Prelude.{ℕ, ◌+◌, ◌==◌, List, [], ◌++◌, codes, Bool, false}
-use Rattle.std.specs.Prelude.{Option, Some, None, if◌then◌else◌, length}
+use Rattle.std.specs.Prelude.{Option, Some, None, if◌then◌else◌}
 use Rattle.std.specs.Fmt.{decimal}
 use Rattle.cn_table.specs.Names.{name_at}
 use Rattle.cn_table.specs.TypeTable.{TypeTable, operation_names}
@@ -48,12 +48,9 @@ unfoldable pub witness_lines : TypeTable → UnreadWitness → List ℕ
 witness_lines t w =
     witness_line t w.processes w.choice ++ (next_steps t (codes "  ") w ++ [])
 
--- what they get, if that is told
+-- what they get
 unfoldable pub views_part : TypeTable → UnreadWitness → List ℕ
-views_part t w =
-    if length w.views.items == 0
-    then codes "  Each process can tell which team was first by what it gets.\n"
-    else unread_views_text t w.choice w.views.items
+views_part t w = unread_views_text t w.choice w.views.items
     ++ (codes "  No process gets the same on both sides, so each can tell which team was first.\n" ++ [])
 
 -- both
@@ -82,7 +79,7 @@ least_part e (Some s) = folded (signs_text e.table s)
 
 -- the rule of a type that no more processes solve with reads, if there is one
 abbrev pub with_reads_reason : Option Rule → List ℕ
-with_reads_reason None = codes " (cnum why of this table tells why)"
+with_reads_reason None = codes " (cnum why of a table of these states tells why)"
 with_reads_reason (Some rule) = codes ", since " ++ (rule_words rule ++ [])
 
 unfoldable pub with_reads_line : Option Rule → ℕ → List ℕ

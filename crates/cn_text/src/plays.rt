@@ -1,22 +1,46 @@
 //! The plays of an adversary: a choice for each, and two runs.
 ghost use Rattle.std.specs.Prelude.{◌≡◌, ◌++◌, string_bytes, All, IfSome, OnOk};
-ghost use Rattle.cn_text.specs.Plays.{play_end, play_runs, play_text};
+ghost use Rattle.cn_text.specs.Plays.{has_step, play_end, play_runs, play_text, same_words};
 ghost use Rattle.cn_text.specs.Ways.{numbered};
 ghost use Rattle.cn_unread_reasons.specs.Known.{IsKnownPlay, IsKnownEnd};
 
 use crate::ways::{push_both_runs, push_way_start};
 use cn_pieces::push_pieces;
+use cn_reasons::Step;
 use cn_sentences::process_name;
 use cn_table::Table;
 use cn_unread_reasons::{Play, PlayEnd};
 use std::alloc::AllocError;
 
+/// What a process of which both runs have the same steps gets in them.
+fn same_words<'a>(has_moved: bool) -> &'a str
+    ensures { result.now ≡ same_words has_moved }
+{
+    if has_moved {
+        " gets the same"
+    } else {
+        " has not moved"
+    }
+}
+
+/// Whether the process takes a step of the run.
+fn has_step(process: u8, run: &[Step]) -> bool
+    ensures { result ≡ has_step process run.now }
+{
+    run.iter().any(|step| step.process == process)
+}
+
 /// The process that gets the same in both runs, and the state that both leave.
 #[tactic(auto, unfolding(crate::specs::Plays::play_end))]
-fn push_play_end(text: &mut String, table: &Table, end: PlayEnd) -> Result<(), AllocError>
+fn push_play_end(
+    text: &mut String,
+    table: &Table,
+    end: PlayEnd,
+    has_moved: bool,
+) -> Result<(), AllocError>
     requires { IsKnownEnd table.now end }
     ensures { OnOk result (string_bytes text.new
-        ≡ string_bytes text.old ++ play_end table.now end) }
+        ≡ string_bytes text.old ++ play_end table.now end has_moved) }
 {
     let (process, state) = (process_name(end.process), table.state_name(end.state));
     push_pieces(
@@ -24,7 +48,8 @@ fn push_play_end(text: &mut String, table: &Table, end: PlayEnd) -> Result<(), A
         &[
             "        ",
             process,
-            " gets the same, and each leaves ",
+            same_words(has_moved),
+            ", and each leaves ",
             state,
             ":\n",
         ],
@@ -41,7 +66,8 @@ fn push_play_runs(text: &mut String, table: &Table, play: &Play) -> Result<(), A
         return text.push_str("        the adversary goes on for ever\n");
     };
     let (a_first, b_first) = (play.a_first.as_slice(), play.b_first.as_slice());
-    push_play_end(text, table, end)?;
+    let has_moved = has_step(end.process, a_first);
+    push_play_end(text, table, end, has_moved)?;
     push_both_runs(text, table, true, play.choice.start, a_first, b_first)
 }
 

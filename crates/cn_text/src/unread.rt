@@ -66,7 +66,7 @@ fn push_witness_lines(
     push_next_steps(text, table, "  ", witness)
 }
 
-/// What the processes of the witness get, if that is told.
+/// What the processes of the witness get.
 #[tactic(auto, unfolding(crate::specs::Unread::views_part))]
 fn push_views_part(
     alloc: Global,
@@ -78,11 +78,13 @@ fn push_views_part(
     ensures { OnOk result (string_bytes text.new
         ≡ string_bytes text.old ++ views_part table.now witness.now) }
 {
-    let views = witness.views.as_slice();
-    if views.is_empty() {
-        return text.push_str("  Each process can tell which team was first by what it gets.\n");
-    }
-    push_unread_views(alloc, text, table, &witness.choice, views)?;
+    push_unread_views(
+        alloc,
+        text,
+        table,
+        &witness.choice,
+        witness.views.as_slice(),
+    )?;
     push_pieces(
         text,
         &["  No process gets the same on both sides, so each can tell which team was first.\n"],
@@ -163,7 +165,7 @@ fn push_with_reads_reason(text: &mut String, rule: Option<Rule>) -> Result<(), A
         ≡ string_bytes text.old ++ with_reads_reason rule) }
 {
     match rule {
-        None => text.push_str(" (cnum why of this table tells why)"),
+        None => text.push_str(" (cnum why of a table of these states tells why)"),
         Some(rule) => push_pieces(text, &[", since ", rule_words(rule)]),
     }
 }

@@ -1,18 +1,13 @@
 -- The version of a JSON value, by its test.
-use Rattle.std.proofs.Common.{◌≡◌, ◌∙◌, ℕ, List, Bool, true, false, not, Option, Some, None, ap, sym, refl, codes, true≢false, cond, nat_eq}
-use Rattle.std.specs.Prelude.{find}
+use Rattle.std.proofs.Common.{◌≡◌, ◌∙◌, ℕ, true, false, Option, Some, None, ap, sym, refl, codes, true≢false, nat_eq}
 use Rattle.std.specs.Option.{option_map_or}
 use Rattle.std.proofs.lemmas.Bool.{eqb-true}
 use Rattle.serde_json.specs.Data.{Data}
 use Rattle.serde_json.specs.Find.{get}
 use Rattle.cn_cert.specs.CertificateText.{number_data}
-use Rattle.cn_cert.specs.Document.{document_of}
 use Rattle.cn_cert.specs.Values.{natural_of}
 use Rattle.cn_unread_cert.proofs.Values.{number_back}
-use Rattle.cn_unread_cert.specs.Kinds.{any_limits, has_at, has_shape, has_version, is_in_range, is_number, is_this}
-use Rattle.cn_unread_cert.specs.Reading.{fault_of, faults, holds}
-use Rattle.cn_unread_cert.specs.declared.fault.UnreadCertFault.{UnreadCertFault}
-use Rattle.cn_unread_cert.specs.declared.fault.UnreadCertFault.TheVariants.{NotJson, Range, Version, WrongShape}
+use Rattle.cn_unread_cert.specs.Kinds.{any_limits, has_at, has_version, is_number, is_this}
 
 this_back : (d : Data) (n : ℕ) → is_this n d ≡ true → d ≡ number_data n
 this_back d n h = by_natural (natural_of d) refl h

@@ -11,6 +11,7 @@
 mod certificate;
 mod fault;
 mod kinds;
+pub mod laws;
 mod limits;
 mod maker;
 mod part;

@@ -1,21 +1,27 @@
 //! From the number of a type without reads to its certificate.
-ghost use Rattle.std.specs.Prelude.{◌≡◌, ◌≤◌, ◌<◌, None, Some, IfOk, IfSome};
+ghost use Rattle.std.specs.Prelude.{◌≡◌, ◌⊎◌, ◌≤◌, ◌<◌, All, None, Some, IfNone, IfOk, IfSome};
+ghost use Rattle.cn_choice.specs.Canonical.{raw_choice_of};
+ghost use Rattle.cn_choice.specs.Discerning.{IsDiscerning};
+ghost use Rattle.cn_choice.specs.Live.{live_choices};
+ghost use Rattle.cn_choice.specs.RawChoices.{IsRawChoice};
 ghost use Rattle.cn_choice.specs.declared.limits.TheConstants.{MOST_PROCESSES};
 ghost use Rattle.cn_merging.specs.Merged.{IsWhollyMerged};
-ghost use Rattle.cn_unread_cert.specs.Kept.{IsClaimShown, IsLeastKept, IsLower, IsMostKept, IsUpper, LeastIsShown, MostIsShown, least_of, most_of};
+ghost use Rattle.cn_unread_cert.specs.Kept.{AreReadsShown, IsClaimShown, IsLeastKept, IsLower, IsMostKept, IsToldKept, IsUpper, KeepsFound, LeastIsShown, MostIsShown, least_of, most_of};
 ghost use Rattle.cn_unread_cert.specs.Right.{AreInRange, IsRight};
-ghost use Rattle.cn_unread_number.specs.Evidence.{AreShown};
+ghost use Rattle.cn_unread_number.specs.Evidence.{AreShown, TellsItsStates};
+ghost use Rattle.cn_views.specs.VisibleChoices.{SomeLooksTell};
 
 use crate::certificate::{LeastClaim, UnreadCertificate};
-use cn_choice::MOST_PROCESSES;
+use cn_choice::laws::{live_choices_decide, live_list, monotonicity};
+use cn_choice::{Choice, Choices, MOST_PROCESSES};
 use cn_game::{Trap, find_trap};
 use cn_signs::find_signs;
 use cn_table::Table;
-use cn_table::laws::tables_are_valid;
+use cn_table::laws::{tables_are_closed, tables_are_valid};
 use cn_unread_number::{
     Evidence, LeastEvidence, MOST_CHOICES, MostEvidence, NumberBounds, UnreadNumber, unread_number,
 };
-use cn_views::find_visible;
+use cn_views::{Looks, find_visible};
 use std::alloc::{AllocError, Global};
 use std::thread::Threads;
 
@@ -87,18 +93,70 @@ fn visible_up_to(table: &Table, most: u8) -> Lower
     lower
 }
 
-/// The lower bound that is found for a type that tells its states, by its number.
-fn found(table: &Table, number: Option<u8>) -> Lower
-    ensures { IsLower table.now result }
+/// The first choice for n processes that is visible, however many come before it.
+fn first_visible(table: &Table, n: u8) -> Option<Choice>
+    requires some { 2 ≤ n }
+    requires few { n ≤ MOST_PROCESSES }
+    ensures shown { IfSome result (λ choice. IsRawChoice table.now n (raw_choice_of choice)
+        × SomeLooksTell table.now (raw_choice_of choice)) }
+    ensures none { IfNone result (All (λ choice. ¬ SomeLooksTell table.now (raw_choice_of choice))
+        (live_choices table.now n)) }
 {
+    live_list();
+    let looks = Looks::of(table);
+    for choice in Choices::new(table, n) {
+        if looks.tell(table, &choice) {
+            return Some(choice);
+        }
+    }
+    None
+}
+
+/// The lower bound n of a type that tells its states, where n processes can agree with reads. A
+/// choice that is a witness for them is visible then, so the search for one needs no limit.
+fn told_for(table: &Table, n: u8) -> Lower
+    requires telling { TellsItsStates table.now }
+    requires reads { 2 ≤ n → IsDiscerning table.now n }
+    requires some { 1 ≤ n }
+    requires few { n ≤ MOST_PROCESSES }
+    ensures lower { IsLower table.now result }
+    ensures same { result.at_least ≡ Some n }
+{
+    live_list();
+    live_choices_decide();
+    tables_are_valid(table);
+    tables_are_closed();
+    if n < 2 {
+        return Lower {
+            at_least: Some(n),
+            by: LeastClaim::Alone,
+        };
+    }
+    let Some(choice) = first_visible(table, n) else {
+        unreachable!()
+    };
+    Lower {
+        at_least: Some(n),
+        by: LeastClaim::Visible(choice),
+    }
+}
+
+/// The lower bound of a type that tells its states, by its number.
+fn told(table: &Table, number: Option<u8>) -> Lower
+    requires telling { TellsItsStates table.now }
+    requires reads { AreReadsShown table.now number }
+    ensures lower { IsLower table.now result }
+    ensures kept { IsToldKept number result.at_least }
+{
+    monotonicity();
     match number {
-        Some(n) => visible_up_to(table, n.min(MOST)),
+        Some(n) => told_for(table, n.min(MOST)),
         None => match find_signs(table, MOST_SIGNS) {
             Some(signs) => Lower {
                 at_least: None,
                 by: LeastClaim::Signs(signs),
             },
-            None => visible_up_to(table, MOST),
+            None => told_for(table, MOST),
         },
     }
 }
@@ -111,7 +169,7 @@ fn claimed(table: &Table, number: Option<u8>, claim: LeastClaim) -> Lower
 {
     let n = number.unwrap_or(MOST);
     if n > MOST {
-        return found(table, number);
+        return visible_up_to(table, MOST);
     }
     Lower {
         at_least: Some(n),
@@ -130,7 +188,7 @@ fn lower_of(table: &Table, number: Option<u8>, evidence: LeastEvidence) -> Lower
             at_least: Some(1),
             by: LeastClaim::Alone,
         },
-        LeastEvidence::Telling(_) => found(table, number),
+        LeastEvidence::Telling(_) => told(table, number),
         LeastEvidence::Visible(choice) => claimed(table, number, LeastClaim::Visible(choice)),
         LeastEvidence::Further(further) => claimed(table, number, LeastClaim::Further(further)),
         LeastEvidence::Signs(signs) => Lower {
@@ -156,7 +214,8 @@ fn trapped(alloc: Global, table: &Table, n: u8, most: u8) -> Result<Upper, Alloc
     requires some { 1 ≤ n }
     requires ordered { n ≤ most }
     requires few { most < MOST_PROCESSES }
-    ensures { IfOk result (IsUpper table.now (Some n)) }
+    ensures upper { IfOk result (IsUpper table.now (Some n)) }
+    ensures kept { IfOk result (λ upper. (upper.at_most ≡ None) ⊎ (upper.at_most ≡ Some most)) }
 {
     match find_trap(alloc, table, most + 1, MOST_POSITIONS)? {
         Some(trap) => Ok(Upper {
@@ -199,9 +258,13 @@ fn upper_of(
 impl UnreadCertificate {
     /// The certificate of a number without reads that was found of the table.
     ///
-    /// A bound is that of the number, unless the number with reads shows that of the number, or it
-    /// is for more than 8 processes. Then evidence is looked for, within the limits of the search,
-    /// and the bound is what it shows.
+    /// The lower bound is that of the number, up to 8 processes. For a type that tells its states a
+    /// visible choice is looked for, with no limit, since there is one. One for every number needs
+    /// signs; where none are found within the limits of the search, it is 8.
+    ///
+    /// An upper bound below 8 is that of the number where a trap shows it. Where the number with
+    /// reads shows it, a trap is looked for, within the limits of the search; without one there is
+    /// no upper bound.
     ///
     /// # Errors
     ///
@@ -245,7 +308,8 @@ impl UnreadCertificate {
     }
 }
 
-/// The certificate of the number of a type without reads, as it is found.
+/// The certificate of the number of a type without reads, as it is found: it keeps the bounds of
+/// that number, as [`UnreadCertificate::of_number`] says.
 ///
 /// # Errors
 ///
@@ -256,8 +320,12 @@ pub fn unread_certificate<T: Threads + Sync>(
     table: &Table,
 ) -> Result<UnreadCertificate, AllocError>
     // promise: certificate-without-reads (IsRight)
-    ensures { IfOk result (IsRight table.now) }
+    ensures right { IfOk result (IsRight table.now) }
+    // promise: certificate-without-reads (KeepsFound)
+    ensures kept { IfOk result (KeepsFound table.now) }
 {
     let number = unread_number(rt, alloc, table)?;
-    UnreadCertificate::of_number(alloc, table, number)
+    tables_are_valid(&number.merged.table);
+    let certificate = UnreadCertificate::of_number(alloc, table, number)?;
+    Ok(certificate)
 }

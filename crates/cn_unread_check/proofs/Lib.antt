@@ -1,2 +1,4 @@
+pub mod Ascending
 pub mod BoundLemmas
+pub mod OneMerging
 pub mod Verdicts

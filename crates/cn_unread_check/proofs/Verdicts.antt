@@ -1,8 +1,9 @@
 -- The first faults of certificates.
-use Rattle.std.proofs.Common.{◌≡◌, ◌≢◌, ℕ, ◌<◌, ◌≤◌, arith}
-use Rattle.cn_table.specs.TypeTable.{TypeTable}
+use Rattle.std.proofs.Common.{◌≡◌, ◌≢◌, ℕ, ◌<◌, ◌≤◌, arith, subst}
+use Rattle.cn_table.specs.TypeTable.{IsTypeTable, TypeTable}
 use Rattle.cn_unread_cert.specs.Certificate.{UnreadCertificate}
-use Rattle.cn_unread_cert.specs.Right.{AreInRange, IsMerging, ShowsAtLeast, ShowsAtMost}
+use Rattle.cn_unread_cert.specs.Right.{AreInRange, IsMerging, IsRight, IsRightFor, ShowsAtLeast, ShowsAtMost}
+use Rattle.cn_unread_check.proofs.OneMerging.{one_merging}
 use Rattle.cn_unread_check.specs.FaultText.{unread_fault_number}
 use Rattle.cn_unread_check.specs.Faults.{HasFault, IsFirstFault}
 use Rattle.cn_unread_check.specs.declared.fault.UnreadCheckFault.{UnreadCheckFault}
@@ -53,3 +54,20 @@ module _ (t u : TypeTable) (merging : IsMerging t u) (c : UnreadCertificate) whe
   pub no_most : c.type_name ≡ t.name → AreInRange c.at_least c.at_most
       → ShowsAtLeast u c.least c.at_least → ¬ ShowsAtMost u c.most c.at_most → IsFirstFault t c Most
   no_most type range least has = (u, merging, has, sooner 4 (omega arith) (λ _. type) (λ _. range) (λ _. least))
+
+-- a certificate that is right has no fault
+no_fault : (t u : TypeTable) (c : UnreadCertificate) (e : UnreadCheckFault) → IsRightFor t.name u c
+    → ¬ HasFault t.name u c e
+no_fault t u c OtherType right = λ has. has right.type_name
+no_fault t u c BadNumber right = λ has. has right.in_range
+no_fault t u c Least right = λ has. has right.least
+no_fault t u c Most right = λ has. has right.most
+no_fault t u c TooManyScenes right = λ has. has
+no_fault t u c OutOfMemory right = λ has. has
+
+-- for it is judged by the one type to which the states merge
+pub fault_is_wrong : (t : TypeTable) (c : UnreadCertificate) (e : UnreadCheckFault) → IsTypeTable t
+    → IsFirstFault t c e → ¬ IsRight t c
+fault_is_wrong t c e table first = λ right.
+    no_fault t first.0 c e (subst (λ (u : TypeTable). IsRightFor t.name u c)
+    (one_merging t right.0 first.0 table right.1 first.1) right.2) first.2

@@ -38,3 +38,12 @@ IsByFurther (least.Signs signs) = ⊥
 -- operations
 abbrev pub IsUndecided : UnreadCertificate → UnreadCheckFault → Type 0
 IsUndecided c e = (e ≡ OutOfMemory) ⊎ ((e ≡ TooManyScenes) × IsByFurther c.least)
+
+-- room for scenes runs out only where the type and the range of the bounds are right
+abbrev pub ComeScenesLast : TypeTable → UnreadCertificate → UnreadCheckFault → Type 0
+ComeScenesLast t c TooManyScenes = (c.type_name ≡ t.name) × AreInRange c.at_least c.at_most
+ComeScenesLast t c OtherType = Unit {0}
+ComeScenesLast t c BadNumber = Unit {0}
+ComeScenesLast t c Least = Unit {0}
+ComeScenesLast t c Most = Unit {0}
+ComeScenesLast t c OutOfMemory = Unit {0}

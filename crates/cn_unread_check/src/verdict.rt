@@ -2,12 +2,12 @@
 ghost use Rattle.std.specs.Prelude.{◌≡◌, ◌⊎◌, ◌↔◌, IfErr, IsTrue, OnOk};
 ghost use Rattle.cn_unread_cert.specs.Right.{AreInRange, IsRight};
 ghost use Rattle.cn_unread_check.specs.Bounds.{bounds_of};
-ghost use Rattle.cn_unread_check.specs.Faults.{IsFirstFault, IsUndecided};
+ghost use Rattle.cn_unread_check.specs.Faults.{ComeScenesLast, IsFirstFault, IsUndecided};
 ghost use Rattle.cn_unread_number.specs.Bounds.{HasUnreadNumber};
 
 use crate::evidence::{shows_at_least, shows_at_most};
 use crate::fault::UnreadCheckFault;
-use crate::laws::accepted_bounds_hold;
+use crate::laws::{accepted_bounds_hold, faults_are_wrong};
 use cn_merging::merge;
 use cn_table::Table;
 use cn_table::laws::tables_are_valid;
@@ -37,7 +37,8 @@ fn are_in_range(at_least: Option<u8>, at_most: Option<u8>) -> bool
 /// Checks a certificate of a number without reads against the table of its type.
 ///
 /// `Ok` says that the certificate is for this type, and that its evidence shows its bounds: so each
-/// of them is a bound of the type's number.
+/// of them is a bound of the type's number. A certificate of which that is so is accepted, if the
+/// check comes to its end.
 ///
 /// # Errors
 ///
@@ -57,11 +58,18 @@ pub fn check_unread(
     // promise: check-without-reads (IsFirstFault)
     ensures refused { IfErr result (λ e. IsUndecided certificate.now e
         ⊎ IsFirstFault table.now certificate.now e) }
+    // promise: check-without-reads (IsUndecided)
+    ensures passes { IsRight table.now certificate.now
+        → IfErr result (IsUndecided certificate.now) }
+    // promise: check-without-reads (ComeScenesLast)
+    ensures scenes { IfErr result (ComeScenesLast table.now certificate.now) }
 {
     let (least, most) = (certificate.at_least, certificate.at_most);
     accepted_bounds_hold();
+    faults_are_wrong();
     let merged = merge(alloc, table)?;
     tables_are_valid(&merged.table);
+    tables_are_valid(table);
     if !is_of_type(certificate, table) {
         return Err(UnreadCheckFault::OtherType);
     }

@@ -14,6 +14,7 @@ pub mod Groups
 pub mod Images
 pub mod Joining
 pub mod Judging
+pub mod LastingExample
 pub mod Marks
 pub mod MergedTypes
 pub mod OneProcess
@@ -21,6 +22,7 @@ pub mod Pairs
 pub mod ReadNumbers
 pub mod SignNodes
 pub mod Split
+pub mod TellingTypes
 pub mod Towers
 pub mod UnreadNumbers
 pub mod UnreadRounds

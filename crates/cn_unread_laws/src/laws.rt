@@ -23,7 +23,7 @@ ghost use Rattle.cn_unread.specs.Signs.{AreSigns, Signs};
 ghost use Rattle.cn_unread.specs.Views.{IsViewDiscerning};
 ghost use Rattle.cn_unread_number.specs.Bounds.{HasUnreadNumber};
 ghost use Rattle.cn_unread_number.specs.BoundsText.{bounds_text};
-ghost use Rattle.cn_unread_number.specs.Evidence.{AreShown};
+ghost use Rattle.cn_unread_number.specs.Evidence.{AreShown, TellsItsStates};
 ghost use Rattle.cn_unread_number.specs.declared.bounds.NumberBounds.{NumberBounds};
 ghost use Rattle.cn_unread_number.specs.declared.evidence.LeastEvidence.{LeastEvidence};
 ghost use Rattle.cn_unread_number.specs.declared.evidence.MostEvidence.{MostEvidence};
@@ -38,7 +38,9 @@ use cn_consensus::laws::consensus_needs_a_witness;
 use cn_proto::laws::tournaments_are_sound;
 use cn_solvable::laws::{solving_is_discerning, witness_is_enough};
 use cn_table::laws::tables_are_closed;
-use cn_unread::laws::{added_reads, lasting_responses_tell_any_number, queue_of_one};
+use cn_unread::laws::{
+    added_reads, lasting_responses_tell_any_number, queue_of_one, telling_types_need_no_reads,
+};
 use cn_unread_number::laws::shown_bounds_hold;
 
 /// Consensus needs a choice that is a witness, and defended where the protocol does not read: where
@@ -196,6 +198,14 @@ pub fn lasting_responses_solve()
     lasting_responses_tell_any_number();
 }
 
+/// Some closed type has responses that tell for good: a sticky bit (Plotkin, 1989) whose writes
+/// answer the value that stands then.
+pub fn some_type_lasts()
+    // promise: lasting-responses
+    ensures { (t : TypeTable) × (start : ℕ) × (many : ℕ) × (single : ℕ) × IsClosed t
+        × LastsByResponses t start many single }
+{}
+
 /// Consensus numbers (Herlihy, 1991) without reads:
 ///
 /// - `defended`: where views tell the teams of a choice for n apart, and n is the greatest number
@@ -314,6 +324,32 @@ pub fn number_of_a_queue_of_one<L, V>()
     views_are_enough();
     queue_of_one();
     witness_is_enough();
+}
+
+/// Types that tell their states have one number, with reads and without. Where an operation that gets
+/// one response leads to one state, as read-modify-write operations do, or where operations that
+/// change nothing tell the state:
+///
+/// - `solves`: for each n the type solves consensus for n processes exactly if it does without reads;
+/// - `without_reads`: its consensus number is its number without reads;
+/// - `with_reads`: and its number without reads is its consensus number.
+///
+/// Read-modify-write types: Ruppert, 2000. The others are new here.
+pub fn telling_types_have_one_number<L, V>()
+    // promise: telling-types (SolvesConsensus, SolvesWithoutReads)
+    ensures solves { (t : TypeTable) (n : ℕ) → IsClosed t → TellsItsStates t
+        → SolvesConsensus t n ↔ SolvesWithoutReads t n }
+    // promise: telling-types (IsUnreadNumber)
+    ensures without_reads { (t : TypeTable) (n : ℕ) → IsClosed t → TellsItsStates t
+        → IsConsensusNumber (LocalOf Bool) (Option Bool) t n → IsUnreadNumber L V t n }
+    // promise: telling-types (IsConsensusNumber)
+    ensures with_reads { (t : TypeTable) (n : ℕ) → IsClosed t → TellsItsStates t
+        → IsUnreadNumber (LocalOf Bool) (Option Bool) t n → IsConsensusNumber L V t n }
+{
+    telling_types_need_no_reads();
+    collects_are_enough();
+    solving_is_discerning();
+    consensus_needs_a_witness::<L, V>();
 }
 
 /// Reads are one more operation. For a type, and for the type with a read added:

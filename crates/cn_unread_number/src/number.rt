@@ -92,10 +92,10 @@ fn bounds_with(
 /// States that no operations tell apart are merged first. A type whose responses, or operations
 /// that change nothing, tell its states has the number that it has with reads. Else choices are
 /// looked for whose teams responses tell apart, with operations that change nothing or with one
-/// further operation, or signs for every number of processes; and from above a trap. The searches
-/// have limits, past which the number is told as a range. This leaves nothing above a number with
-/// reads, and nothing below a number up to which one of the first [`MOST_CHOICES`](crate::MOST_CHOICES)
-/// choices is visible.
+/// further operation, or signs for every number of processes; and from above a trap, for one process
+/// more, and if that is not found for some more. The searches have limits, past which the number is
+/// told as a range. This leaves nothing above a number with reads, and nothing below a number up to
+/// which one of the first [`MOST_CHOICES`](crate::MOST_CHOICES) choices is visible.
 ///
 /// # Errors
 ///

@@ -114,6 +114,26 @@ fn next_step(alloc: Global, table: &Table, n: u8) -> Result<Step, AllocError>
     }
 }
 
+/// What is shown once a trap is looked for that bounds the number by this one, by the next one, and so
+/// on.
+fn bounded_from(alloc: Global, table: &Table, shown: Shown, first: u8) -> Result<Shown, AllocError>
+    requires shown { IsShown table.now shown }
+    requires least { shown.least ≤ first }
+    ensures shown { IfOk result (IsShown table.now) }
+    ensures least { IfOk result (λ all. all.least ≡ shown.least) }
+    ensures within { IfOk result (λ all. IfSome shown.most (IsWithin all.most)) }
+{
+    let mut all = shown;
+    for most in first..greatest(all.most) {
+        if let Some(trap) = find_trap(alloc, table, most + 1, MOST_POSITIONS)? {
+            all.most = Some(most);
+            all.why = MostEvidence::Trap(trap);
+            return Ok(all);
+        }
+    }
+    Ok(all)
+}
+
 /// What is shown once traps and further operations are looked for, for more and more processes.
 fn raised(alloc: Global, table: &Table, shown: Shown) -> Result<Shown, AllocError>
     requires { IsShown table.now shown }
@@ -133,7 +153,7 @@ fn raised(alloc: Global, table: &Table, shown: Shown) -> Result<Shown, AllocErro
                 all.least = least + 1;
                 all.by = LeastEvidence::Further(further);
             }
-            Step::Open => return Ok(all),
+            Step::Open => return bounded_from(alloc, table, all, least + 1),
         }
     }
     Ok(all)

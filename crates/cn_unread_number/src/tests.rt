@@ -94,6 +94,26 @@ next = [\"0\", \"1\", \"1\"]
 "
 }
 
+/// A queue with room for two letters whose `enq` tells whether it was empty.
+fn queue_that_tells() -> &'static str {
+    "name = \"queue_tells_empty_2\"
+states = [\"q\", \"qa\", \"qb\", \"qaa\", \"qab\", \"qba\", \"qbb\"]
+responses = [\"yes\", \"no\", \"full\", \"empty\", \"a\", \"b\"]
+[[operation]]
+name = \"enq_a\"
+response = [\"yes\", \"no\", \"no\", \"full\", \"full\", \"full\", \"full\"]
+next = [\"qa\", \"qaa\", \"qba\", \"qaa\", \"qab\", \"qba\", \"qbb\"]
+[[operation]]
+name = \"enq_b\"
+response = [\"yes\", \"no\", \"no\", \"full\", \"full\", \"full\", \"full\"]
+next = [\"qb\", \"qab\", \"qbb\", \"qaa\", \"qab\", \"qba\", \"qbb\"]
+[[operation]]
+name = \"deq\"
+response = [\"empty\", \"a\", \"b\", \"a\", \"a\", \"b\", \"b\"]
+next = [\"q\", \"q\", \"q\", \"qa\", \"qb\", \"qa\", \"qb\"]
+"
+}
+
 /// What is known of the number of the table that the text spells, and why.
 fn evidence<T: Threads + Sync>(rt: &T, alloc: Global, text: &str) -> Result<Evidence, Fail> {
     let table = read_table(alloc, text.as_bytes())?;
@@ -116,5 +136,14 @@ fn numbers_of_worked_types(rt: HostRuntime) -> Result<(), Fail> {
     assert!(rt; three.bounds == NumberBounds::Exactly(3));
     assert!(rt; matches!(three.least, LeastEvidence::Further(_)));
     assert!(rt; matches!(three.most, MostEvidence::Trap(_)));
+    Ok(())
+}
+
+#[test]
+fn a_number_that_is_not_decided_is_bounded(rt: HostRuntime) -> Result<(), Fail> {
+    let found = evidence(&rt, rt.alloc(), queue_that_tells())?;
+    assert!(rt; found.bounds == NumberBounds::Between(2, 3));
+    assert!(rt; matches!(found.least, LeastEvidence::Visible(_)));
+    assert!(rt; matches!(found.most, MostEvidence::Trap(_)));
     Ok(())
 }

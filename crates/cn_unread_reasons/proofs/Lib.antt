@@ -1,4 +1,5 @@
 pub mod EachOnce
 pub mod Explained
 pub mod Fits
+pub mod FurtherTold
 pub mod Led

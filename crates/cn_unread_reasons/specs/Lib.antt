@@ -1,3 +1,4 @@
+pub mod FurtherViews
 pub mod Known
 pub mod LowReasons
 pub mod MergedStates

@@ -10,6 +10,7 @@ use Rattle.cn_further.specs.FurtherNodes.{TellsFirst}
 use Rattle.cn_reasons.specs.Groups.{choice_groups, groups_of}
 use Rattle.cn_reasons.specs.declared.group.Group.{Group}
 use Rattle.cn_unread.specs.Collects.{IsVisible}
+use Rattle.cn_unread_reasons.specs.FurtherViews.{IsFurtherViewOf}
 use Rattle.cn_unread_reasons.specs.UnreadSights.{AreSightsOf}
 use Rattle.cn_unread_reasons.specs.declared.witness.UnreadView.{UnreadView}
 use Rattle.cn_unread_reasons.specs.declared.witness.UnreadWitness.{UnreadWitness}
@@ -37,7 +38,7 @@ pub record IsFurtherWitness (t : TypeTable) (n : ℕ) (c : Choice) (w : UnreadWi
     : Type 0 where
   pub no_looks : w.looks.items ≡ []
   pub tells : TellsFirst t n c w.follow_ups.items
-  pub no_views : w.views.items ≡ []
+  pub views : AllZip (IsFurtherViewOf t w.follow_ups.items c) (groups_of c) w.views.items
 
 -- a choice for n processes, whose teams they tell apart in one of these ways
 pub record IsUnreadWitnessOf (t : TypeTable) (n : ℕ) (w : UnreadWitness) : Type 0 where

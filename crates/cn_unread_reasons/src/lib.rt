@@ -10,6 +10,7 @@
 #![tactic(auto)]
 
 mod explanation;
+mod further_views;
 mod low;
 mod merged;
 mod moves;

@@ -72,15 +72,21 @@ fn seen_witness(
 }
 
 /// The witness of further operations for n processes, if they are not too many.
-fn helped_witness(alloc: Global, table: &Table, further: Further, n: u8) -> Option<UnreadWitness>
+fn helped_witness(
+    alloc: Global,
+    table: &Table,
+    further: Further,
+    n: u8,
+) -> Result<Option<UnreadWitness>, AllocError>
     requires { TellsFirst table.now n further.choice further.follow_ups.items }
-    ensures witness { IfSome result (IsWitnessFor table.now n n) }
-    ensures known { IfSome result (IsKnownUnreadWitness table.now) }
+    ensures witness { IfOk result (λ found. IfSome found (IsWitnessFor table.now n n)) }
+    ensures known { IfOk result (λ found. IfSome found (IsKnownUnreadWitness table.now)) }
     ensures found { 2 ≤ n → n ≤ MOST_PROCESSES
-        → All (IsKnownFollowUp table.now) further.follow_ups.items → IsSome result }
+        → All (IsKnownFollowUp table.now) further.follow_ups.items
+        → IfOk result (λ found. IsSome found) }
 {
     if n < 2 || n as usize > MOST_PROCESSES {
-        return None;
+        return Ok(None);
     }
     further_witness(alloc, table, further, n)
 }
@@ -121,7 +127,7 @@ impl Low {
             }),
             LeastEvidence::Further(further) => Ok(Low {
                 telling,
-                witness: helped_witness(alloc, table, further, n),
+                witness: helped_witness(alloc, table, further, n)?,
                 signs,
             }),
             LeastEvidence::Signs(choice) => Ok(Low {

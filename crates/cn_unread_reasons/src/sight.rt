@@ -33,7 +33,7 @@ impl Default for Answer {
 }
 
 /// What a process gets: the response to its operation of the choice, and then the answers of the
-/// operations that change nothing, in order.
+/// operations that change nothing, in order, or that of its further operation, if it does one.
 #[derive(Drop)]
 pub struct UnreadSight {
     /// The response to its operation of the choice.
@@ -112,7 +112,7 @@ fn has(list: &[UnreadSight], sight: &UnreadSight) -> bool
 }
 
 /// Appends it, unless the list has it.
-fn push_new(list: &mut Vec<UnreadSight>, sight: UnreadSight) -> Result<(), AllocError>
+pub(crate) fn push_new(list: &mut Vec<UnreadSight>, sight: UnreadSight) -> Result<(), AllocError>
     ensures same { OnOk result ((s : Told)
         → Contains list.new.items s ↔ (Contains list.old.items s ⊎ (s ≡ sight))) }
     ensures once { OnOk result (AllPairs (λ x y. x ≢ y) list.old.items

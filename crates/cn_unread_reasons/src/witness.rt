@@ -13,6 +13,7 @@ ghost use Rattle.cn_unread_reasons.specs.Known.{IsKnownFollowUp, IsKnownUnreadVi
 ghost use Rattle.cn_unread_reasons.specs.UnreadWitnesses.{IsUnreadViewOf, IsUnreadWitnessOf, numbers_of};
 ghost use Rattle.cn_views.specs.VisibleChoices.{SomeLooksTell};
 
+use crate::further_views::further_views;
 use crate::sight::{UnreadSight, unread_sights};
 use cn_choice::laws::choice_by_teams;
 use cn_choice::{Choice, Team};
@@ -46,8 +47,7 @@ pub struct UnreadWitness {
     pub looks: Vec<Operation>,
     /// What processes do next where further operations tell the teams apart; else none.
     pub follow_ups: Vec<FollowUp>,
-    /// The views of its groups: of those of team A, and then of those of team B. None where further
-    /// operations tell the teams apart.
+    /// The views of its groups: of those of team A, and then of those of team B.
     pub views: Vec<UnreadView>,
 }
 
@@ -184,30 +184,34 @@ fn are_known(table: &Table, follow_ups: &[FollowUp]) -> bool
         .all(|follow_up| is_known(table, *follow_up))
 }
 
-/// The choice for n processes, whose teams further operations tell apart. None if a follow-up is for
-/// an operation or a response that the table does not have.
+/// The choice for n processes, whose teams further operations tell apart, with what each process
+/// gets. None if a follow-up is for an operation or a response that the table does not have.
 pub(crate) fn further_witness(
     alloc: Global,
     table: &Table,
     further: Further,
     n: u8,
-) -> Option<UnreadWitness>
+) -> Result<Option<UnreadWitness>, AllocError>
     requires some { 2 ≤ n }
     requires few { n ≤ MOST_PROCESSES }
     requires told { TellsFirst table.now n further.choice further.follow_ups.items }
-    ensures witness { IfSome result (IsUnreadWitnessOf table.now n) }
-    ensures known { IfSome result (IsKnownUnreadWitness table.now) }
-    ensures found { All (IsKnownFollowUp table.now) further.follow_ups.items → IsSome result }
+    ensures witness { IfOk result (λ found. IfSome found (IsUnreadWitnessOf table.now n)) }
+    ensures known { IfOk result (λ found. IfSome found (IsKnownUnreadWitness table.now)) }
+    ensures found { All (IsKnownFollowUp table.now) further.follow_ups.items
+        → IfOk result (λ found. IsSome found) }
 {
     choice_by_teams();
     if !are_known(table, further.follow_ups.as_slice()) {
-        return None;
+        return Ok(None);
     }
-    Some(UnreadWitness {
+    let groups = choice_groups(table, &further.choice);
+    let sights = further.sights(alloc, table, n)?;
+    let views = further_views(alloc, sights.as_slice(), &groups)?;
+    Ok(Some(UnreadWitness {
         processes: n,
-        choice: choice_groups(table, &further.choice),
+        choice: groups,
         looks: Vec::new(alloc),
         follow_ups: further.follow_ups,
-        views: Vec::new(alloc),
-    })
+        views,
+    }))
 }

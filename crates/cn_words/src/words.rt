@@ -74,9 +74,10 @@ where an operation leaves the start state unchanged cannot work and are skipped.
 1: not even two processes can agree. A number equal to N stands for at least N; a smaller one is
 that for every greater limit too.
 
-With --without-read writes a certificate of the number for objects that are not read, which classify
---without-read writes: bounds of it, or every number, and the evidence for each. No read is added:
-list every way to look at the object. --limit does not stand beside it.
+With --without-read writes a certificate of bounds of the number for objects that are not read, with
+the evidence for each. They may be wider than what classify --without-read writes: of the greatest
+number a certificate says nothing from 8 on. No read is added: list every way to look at the object.
+--limit does not stand beside it.
 
 ",
     "  cnum find --limit 3 < types/test_and_set.toml
@@ -108,7 +109,8 @@ many processes can agree where none reads an object but by the operations of its
 added: list every way to look at the object. An operation is a read if it leaves every state as it
 is and answers differently in any two; one that tells less helps as far as it tells, and a dequeue
 is no read. List exactly what each operation answers: ok, full and was empty make different numbers.
-It is the number of this bounded table, not of an object without bound, and has no --limit.
+It is the number of this bounded table, not of an object without bound, and has no --limit. Where it
+is not known, the words are at least N, at most M, not decided, or at least N, no upper bound found.
 
 With --as markdown the lines are the rows of one table for a document, with its head before the
 first; with --as json each line is one JSON object.
@@ -221,8 +223,8 @@ const PAIRS_AFTER: &str = help!(
 Reads a type table in TOML from FILE; - is standard input. Writes the consensus number of the type
 with one operation alone and with two operations alone, for each operation and each pair, as a table:
 the cell of an operation with itself is that of the operation alone. A number is written as classify
-writes it. Then it writes the smallest sets of operations with which the type has the number that it
-has with all of them, at most 12 of these.
+writes it, for objects whose whole state processes can read. Then it writes the smallest sets of
+operations with which the type has the number that it has with all of them, at most 12 of these.
 
 With --as markdown this is a table and a list for a document; with --as json, one JSON object.
 

@@ -3,6 +3,7 @@ use Rattle.std.specs.Prelude.{◌≡◌, ◌++◌, ℕ, List, codes, Result, Ok,
 use Rattle.cn_table.specs.TypeTable.{TypeTable}
 use Rattle.cn_unread_number.specs.Bounds.{HasUnreadNumber}
 use Rattle.cn_unread_cert.specs.Certificate.{UnreadCertificate}
+use Rattle.cn_unread_cert.specs.Kept.{KeepsFound}
 use Rattle.cn_unread_cert.specs.Right.{IsRight}
 use Rattle.cn_unread_cert.specs.UnreadText.{unread_text}
 use Rattle.cn_unread_check.specs.Bounds.{bounds_of}
@@ -14,11 +15,12 @@ use Rattle.cn_io.specs.declared.streams.text.Text.{Text}
 use Rattle.cn_io.specs.declared.fault.AppFault.{AppFault}
 use Rattle.cn_io.specs.declared.fault.AppFault.TheVariants.{OutOfMemory}
 
--- the text is a certificate that is right for the table, and a line feed; so its bounds are those of
--- the type without reads
+-- the text is a certificate that is right for the table and keeps the bounds that are found, and a
+-- line feed; so its bounds are those of the type without reads
 pub record IsFoundUnread (t : TypeTable) (text : List ℕ) : Type 0 where
   pub certificate : UnreadCertificate
   pub right : IsRight t certificate
+  pub kept : KeepsFound t certificate
   pub bounds : HasUnreadNumber t (bounds_of certificate.at_least certificate.at_most)
   pub written : text ≡ unread_text certificate ++ codes "\n"
 

@@ -1,49 +1,45 @@
-//! The moves of a position are recorded.
+//! The moves of a position are tried.
 
-use crate::board::{Board, Run};
+use crate::board::Board;
 use crate::moves::{Move, answers};
 use crate::positions::{Positions, Record, Use, Verdict};
 use cn_table::Table;
 use std::alloc::{AllocError, Global};
 
 impl Positions {
-    /// Records the moves of the open position at the place. One after which it is lost settles it,
-    /// and so does it if the protocol has an answer to each.
-    pub fn expand(
+    /// Tries moves of the open position at the place, one after the other, up to one that is worth to
+    /// be pursued. One after which it is lost settles it, and so does it if the protocol has an answer
+    /// to each.
+    pub fn try_moves(
         &mut self,
         alloc: Global,
         table: &Table,
         place: usize,
         board: &Board,
     ) -> Result<(), AllocError> {
-        let start = self.records.len();
-        let standings = board.standings.as_slice();
-        for process in 0..standings.len() as u8 {
-            self.add_moves(alloc, table, place, board, process)?;
+        let first = self.next_of(place).unwrap_or(0);
+        for number in first..2 * board.standings.len() as u8 {
+            if !self.is_at_rest(place) {
+                return Ok(());
+            }
+            self.note_next(place, number + 1);
+            self.try_move(alloc, table, place, board, Move::numbered(number))?;
         }
-        if self.verdict(place).is_open() {
-            self.close(place, start)?;
+        if self.is_at_rest(place) {
+            self.settle(place, Verdict::Held)?;
         }
         Ok(())
     }
 
-    /// Records the moves of one process.
-    fn add_moves(
-        &mut self,
-        alloc: Global,
-        table: &Table,
-        place: usize,
-        board: &Board,
-        process: u8,
-    ) -> Result<(), AllocError> {
-        let run = Run::First;
-        self.add_move(alloc, table, place, board, Move { process, run })?;
-        let run = Run::Second;
-        self.add_move(alloc, table, place, board, Move { process, run })
+    /// Notes the number of the next move of the position that has not been tried.
+    fn note_next(&mut self, place: usize, number: u8) {
+        if let Some(entry) = self.entries.get_mut(place) {
+            entry.next = number;
+        }
     }
 
-    /// Records the move, if the position is open and has it, and no answer to it is held.
-    fn add_move(
+    /// Records the move, if the position has it, and no answer to it is held.
+    fn try_move(
         &mut self,
         alloc: Global,
         table: &Table,
@@ -51,7 +47,7 @@ impl Positions {
         board: &Board,
         step: Move,
     ) -> Result<(), AllocError> {
-        if !step.is_of(board) || !self.verdict(place).is_open() {
+        if !step.is_of(board) {
             return Ok(());
         }
         let boards = answers(alloc, table, board, step)?;
@@ -101,6 +97,9 @@ impl Positions {
             is_met: false,
             uses: (start, end),
         })?;
+        if let Some(entry) = self.entries.get_mut(position) {
+            entry.tried = Some(record);
+        }
         Ok(())
     }
 
@@ -122,36 +121,16 @@ impl Positions {
         Ok(())
     }
 
-    /// The records from this one on are the moves of the position.
-    fn close(&mut self, place: usize, start: usize) -> Result<(), AllocError> {
-        let end = self.records.len();
-        if let Some(entry) = self.entries.get_mut(place) {
-            entry.moves = Some((start, end));
-            entry.hopes = end.saturating_sub(start);
-        }
-        if start == end {
-            self.settle(place, Verdict::Held)?;
-        }
-        Ok(())
-    }
-
-    /// Adds the open answers of the recorded moves of the position, but of those that are met.
+    /// Adds the open answers of the move of the position that is pursued.
     pub fn add_open_answers(
         &self,
         place: usize,
         waiting: &mut Vec<usize>,
     ) -> Result<(), AllocError> {
-        let Some((start, end)) = self.moves_of(place) else {
-            return Ok(());
-        };
-        for index in start..end {
-            if let Some(record) = self.records.get(index) {
-                if !record.is_met {
-                    self.add_open_uses(record.uses, waiting)?;
-                }
-            }
+        match self.pursued(place) {
+            Some(record) => self.add_open_uses(record.uses, waiting),
+            None => Ok(()),
         }
-        Ok(())
     }
 
     /// Adds the open answers among these uses.

@@ -1,6 +1,5 @@
 //! What follows of one verdict for other positions.
 
-use crate::moves::Move;
 use crate::positions::{Positions, Verdict};
 use std::alloc::AllocError;
 
@@ -40,7 +39,7 @@ impl Positions {
             if is_lost {
                 self.count_loss(found.record)?;
             } else {
-                self.meet(found.record)?;
+                self.meet(found.record);
             }
         }
         Ok(())
@@ -59,51 +58,21 @@ impl Positions {
         Ok(())
     }
 
-    /// The protocol has an answer to the move. If it has one to each, the position is held.
-    fn meet(&mut self, place: usize) -> Result<(), AllocError> {
-        let Some(record) = self.records.get_mut(place) else {
-            return Ok(());
-        };
-        let was_met = record.is_met;
-        record.is_met = true;
-        let position = record.position;
-        if !was_met && self.loses_hope(position) {
-            self.note(position, Verdict::Held)?;
+    /// The protocol has an answer to the move.
+    fn meet(&mut self, place: usize) {
+        if let Some(record) = self.records.get_mut(place) {
+            record.is_met = true;
         }
-        Ok(())
     }
 
-    /// The position has one hope less. Answers whether it has none now.
-    fn loses_hope(&mut self, place: usize) -> bool {
-        let Some(entry) = self.entries.get_mut(place) else {
-            return false;
-        };
-        entry.hopes = entry.hopes.saturating_sub(1);
-        entry.hopes == 0
-    }
-
-    /// Settles the open ones of these positions as lost: each of their moves that are not met leads
-    /// to one of them, or to a lost position.
+    /// Settles the open ones of these positions as lost: the move of each that is pursued leads to one
+    /// of them, or to a lost position, whatever the protocol chooses.
     pub fn lose(&mut self, places: &[usize]) -> Result<(), AllocError> {
         for place in places {
-            if self.verdict(*place).is_open() {
-                if let Some(step) = self.hope(*place) {
-                    self.settle(*place, Verdict::LostByMove(step))?;
-                }
+            if let Some(record) = self.pursued(*place) {
+                self.settle(*place, Verdict::LostByMove(record.step))?;
             }
         }
         Ok(())
-    }
-
-    /// A move of the position that is not met.
-    fn hope(&self, place: usize) -> Option<Move> {
-        let (start, end) = self.moves_of(place)?;
-        for index in start..end {
-            let record = self.records.get(index)?;
-            if !record.is_met {
-                return Some(record.step);
-            }
-        }
-        None
     }
 }

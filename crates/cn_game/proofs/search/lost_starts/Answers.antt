@@ -12,8 +12,8 @@ of-requires c =
     let listed = Contains-between (live_choices t c.args.n) c.loop-choice.yielded c.next.new.self d (rw c.in-Some.ensures.steps at c.loop-choice.invariant.all) in
     let known = ((c.live_list.ensures.listed t c.args.n d).0 listed).1 in omega (arith, known.one_operation_each, length-append d.a d.b, c.requires.few)
 
-pub lost_start-requires-clause-known : goal.lost_start-requires-clause-known
-lost_start-requires-clause-known c =
+pub add_lost_start-requires-clause-known : goal.add_lost_start-requires-clause-known
+add_lost_start-requires-clause-known c =
     let t = c.args.table.now in
     let d = c.in-Some.choice in
     let listed = Contains-between (live_choices t c.args.n) c.loop-choice.yielded c.next.new.self d (rw c.in-Some.ensures.steps at c.loop-choice.invariant.all) in

@@ -1,6 +1,5 @@
-use Rattle.std.proofs.Common.{◌∙◌, sym}
 use Rattle.cn_json.proofs.Pieces.{piece}
 use Rattle.cn_json.proofs.unread_witness.write_processes.Goals as goal
 
 pub returns : goal.returns
-returns c = rw (sym c.is_empty.ensures ∙ c.if-is_empty.false) (piece c.in_ok-begin_array_at.ensures c.last_processes.ensures)
+returns c = piece c.in_ok-begin_array_at.ensures c.last_processes.ensures

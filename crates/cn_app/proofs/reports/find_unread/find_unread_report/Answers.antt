@@ -5,8 +5,9 @@ pub returns : goal.returns
 returns g c = (
   record {
     certificate = c.in_ok-certificate.certificate;
-    right = c.in_ok-certificate.ensures;
-    bounds = c.accepted_bounds_hold.ensures c.args.table.now c.in_ok-certificate.certificate c.in_ok-certificate.ensures;
+    right = c.in_ok-certificate.ensures.right;
+    kept = c.in_ok-certificate.ensures.kept;
+    bounds = c.accepted_bounds_hold.ensures c.args.table.now c.in_ok-certificate.certificate c.in_ok-certificate.ensures.right;
     written = ap string_bytes c.whole.ensures.text ∙ c.in_ok-with_line_feed.ensures ∙ ap (λ text. text ++ codes "\n") c.in_ok-text.ensures;
   },
   c.whole.ensures.outcome,
