@@ -1,0 +1,6 @@
+pub mod Choices
+pub mod Division
+pub mod Examples
+pub mod Meeting
+pub mod Parting
+pub mod Witness

@@ -1,0 +1,3 @@
+pub mod Mirroring
+pub mod Protocols
+pub mod Parting

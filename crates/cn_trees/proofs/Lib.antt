@@ -1,0 +1,12 @@
+pub mod Paths
+pub mod Places
+pub mod Invariant
+pub mod Growing
+pub mod Stepping
+pub mod Values
+pub mod Counting
+pub mod Agreeing
+pub mod FullTrees
+pub mod Examples
+pub mod Seats
+pub mod Tournaments
