@@ -91,6 +91,22 @@ pub fn parting_operations_make_plan_trees()
     parting_operations_are_told();
 }
 
+/// So the first n processes agree along such a tree, if n is at most k to the power of its levels,
+/// each within four steps for each level.
+pub fn parting_operations_agree<V>()
+    // promise: parting-plan-trees (IsConsensus)
+    ensures consensus { (t : TypeTable) (k h n : ℕ) (w : Parting) → ArePart t k w
+        → n ≤ power k (h + 1) → (inputs : ℕ → V) (schedule : List ℕ) → IsSchedule n schedule
+        → IsConsensus (parting_tree t (full k h) w) n inputs schedule }
+    // promise: parting-plan-trees (steps_of)
+    ensures steps { (t : TypeTable) (k h p : ℕ) (w : Parting)
+        → steps_of (parting_tree t (full k h) w) p ≤ 4 * (h + 1) }
+{
+    plan_trees_agree::<V>();
+    steps_of_plan_trees();
+    parting_operations_make_plan_trees();
+}
+
 /// One witness serves all nodes of a tree whose teams fit it: at each node each process takes a
 /// role of its team. So the tournament of a witness of two teams (Ruppert, 2000) is a tree of
 /// witnesses:
@@ -99,7 +115,7 @@ pub fn parting_operations_make_plan_trees()
 /// - `tournament`: the tournament of the witness of a choice;
 /// - `of_type`: it is of the type, if the choice is;
 /// - `processes`, `levels`: it has all processes of the choice, and fewer levels than processes;
-/// - `paths`: each process has a path as long as in rounds.
+/// - `paths`, `steps`, `bound`: each process has a path as long as in rounds, and as many steps.
 pub fn tournaments_are_trees_of_witnesses()
     // promise: tournaments-are-plan-trees (Fits)
     ensures one_witness { (t : TypeTable) (s : Teams) (M : Meeting) (processes : ℕ → Bool)
@@ -118,9 +134,17 @@ pub fn tournaments_are_trees_of_witnesses()
     ensures paths { (t : TypeTable) (c : Choice) (p : ℕ) → 1 ≤ length c.a → 1 ≤ length c.b
         → p < length c.a + length c.b → length (path_of (tournament_tree t c) p)
         ≡ length (tournament (length c.a) (length c.b) p) }
+    // promise: tournaments-are-plan-trees (steps_of)
+    ensures steps { (t : TypeTable) (c : Choice) (p : ℕ) → 1 ≤ length c.a → 1 ≤ length c.b
+        → p < length c.a + length c.b → steps_of (tournament_tree t c) p
+        ≡ 4 * length (tournament (length c.a) (length c.b) p) }
+    // promise: tournaments-are-plan-trees
+    ensures bound { (t : TypeTable) (c : Choice) (p : ℕ) → 1 ≤ length c.a → 1 ≤ length c.b
+        → steps_of (tournament_tree t c) p ≤ 4 * (length c.a + length c.b - 1) }
     // promise: tournaments-are-plan-trees (tournament_teams)
     ensures levels { (a b : ℕ) → 1 ≤ a → 1 ≤ b → levels (tournament_teams a b) ≤ a + b - 1 }
 {
+    steps_of_plan_trees();
     witnesses_are_kept();
     witnesses_of_choices();
 }

@@ -1,6 +1,6 @@
-use Rattle.std.proofs.Common.{length}
+use Rattle.std.proofs.Common.{ℕ, ◌*◌, length, refl, ap, ◌∙◌, arith}
 use Rattle.cn_meetings.specs.Choices.{choice_meeting, choice_processes, choice_team}
-use Rattle.cn_trees.specs.Seats.{pair_role, pair_room, tournament_teams}
+use Rattle.cn_trees.specs.Seats.{pair_role, pair_room, tournament_teams, tournament_tree}
 use Rattle.cn_trees.proofs.Tournaments.{pair_roles, paths_are, seated_witnesses, tournament_is, tournament_of}
 use Rattle.cn_trees.proofs.laws.tournaments_are_trees_of_witnesses.Goals as goal
 
@@ -24,3 +24,13 @@ returns-clause-paths c = λ t d p la lb lp. paths_are (length d.a) (length d.b) 
 
 pub returns-clause-of_type : goal.returns-clause-of_type
 returns-clause-of_type c = λ t n d la lb is. tournament_of t n d c.witnesses_are_kept.ensures.other_names la lb is
+
+pub returns-clause-steps : goal.returns-clause-steps
+returns-clause-steps c = λ t d p la lb lp.
+    c.steps_of_plan_trees.ensures.four (tournament_tree t d) p (λ node. refl) ∙ ap (λ (n : ℕ). 4 * n) (paths_are (length d.a) (length d.b) p la lb lp)
+
+pub returns-clause-bound : goal.returns-clause-bound
+returns-clause-bound c = λ t d p la lb. (
+    let m = c.steps_of_plan_trees.ensures.most (tournament_tree t d) p in
+    let l = c.steps_of_plan_trees.ensures.levels (tournament_tree t d) p in
+    let n = (tournament_is (length d.a) (length d.b) la lb).2 in omega arith)
