@@ -1,3 +1,4 @@
 pub mod Known
+pub mod Links
 pub mod Looks
 pub mod Merging

@@ -1,3 +1,4 @@
+pub mod Divisions
 pub mod Joins
 pub mod Levels
 pub mod Sights
