@@ -1,3 +1,4 @@
+pub mod Counting
 pub mod Known
 pub mod Links
 pub mod Looks

@@ -1,4 +1,6 @@
+pub mod Counts
 pub mod Divisions
 pub mod Joins
 pub mod Levels
 pub mod Sights
+pub mod Sizes

@@ -5,6 +5,8 @@ mod components;
 mod joins;
 mod levels;
 mod sights;
+mod sizes;
 mod word_sets;
 
 pub use sights::Sight;
+pub use sizes::Numbers;
