@@ -87,7 +87,7 @@ in_times x (y ∷ xs) (inl e) = omega (arith, times_cons x y xs, one_of x y e)
 in_times x (y ∷ xs) (inr i) = omega (arith, times_cons x y xs, in_times x xs i)
 
 -- ---- sums over the numbers below k
-abbrev total : (ℕ → ℕ) → ℕ → ℕ
+abbrev pub total : (ℕ → ℕ) → ℕ → ℕ
 total f zero = 0
 total f (suc k) = total f k + f k
 
@@ -124,7 +124,7 @@ total_cons P x (suc k) xs l = elim (same_or x k) [
 ]
 
 -- by element, and by value
-by_value : (P : ℕ → Bool) (k : ℕ) (xs : List ℕ) → ((x : ℕ) → IsIn x xs → x < k) → count_by P xs ≡ total (λ g. cond (P g) (times g xs) 0) k
+pub by_value : (P : ℕ → Bool) (k : ℕ) (xs : List ℕ) → ((x : ℕ) → IsIn x xs → x < k) → count_by P xs ≡ total (λ g. cond (P g) (times g xs) 0) k
 by_value P k [] small = sym (total_none P k)
 by_value P k (x ∷ xs) small = omega (arith, count_cons P x xs, by_value P k xs (λ y i. small y (inr i)), total_cons P x k xs (small x (inl refl)))
 

@@ -3,3 +3,5 @@ pub mod Known
 pub mod Links
 pub mod Looks
 pub mod Merging
+pub mod SameSizes
+pub mod Twins

@@ -36,7 +36,7 @@ differ processes [] is = tt
 differ processes (p ∷ order) is =
     (each_from (λ q. p ≢ q) order (order_apart processes p order is), differ processes order (order_tail processes p order is))
 
-got_in : (order : List ℕ) (k p : ℕ) → slice_get order k ≡ Some p → IsIn p order
+pub got_in : (order : List ℕ) (k p : ℕ) → slice_get order k ≡ Some p → IsIn p order
 got_in [] k p e = absurd cc
 got_in (x ∷ order) zero p e = inl cc
 got_in (x ∷ order) (suc k) p e = inr (got_in order k p e)
