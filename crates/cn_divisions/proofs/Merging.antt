@@ -74,6 +74,7 @@ module _ (t : TypeTable) (sight : Sight) (start : ℕ) (stock : List ℕ) where
   pub first_far : (team : List ℕ) → team ≡ 0 ∷ 1 ∷ 2 ∷ 3 ∷ 4 ∷ 5 ∷ 6 ∷ 7 ∷ [] → AreComponentsSoFar t sight start stock 0 team
   first_far team e = record {
     long = rw e refl;
+    small = λ f u. rw (e, first_teams f u) u;
     connected = λ f g u v h.
         let same : f ≡ g = sym (first_teams f u) ∙ (subst (λ (l : List ℕ). slice_index l f ≡ slice_index l g) e h ∙ first_teams g v) in
         subst (Linked f) same (Itself f);
@@ -88,6 +89,10 @@ module _ (t : TypeTable) (sight : Sight) (start : ℕ) (stock : List ℕ) where
   merged_far old new f g l u m j so = (
     record {
       long = m.0 ∙ so.0.long;
+      small = λ x v. elim (cases_eq (slice_index old x) (slice_index old g)) [
+        | inl a ↦ subst (λ (k : ℕ). k < 8) (sym ((m.1 x (omega (arith, v, so.0.long))).0 a)) (so.0.small f (omega (arith, l, u)))
+        | inr a ↦ subst (λ (k : ℕ). k < 8) (sym ((m.1 x (omega (arith, v, so.0.long))).1 a)) (so.0.small x v)
+      ];
       connected = merged_linked old new f g so.0.long (omega (arith, l, u)) u m (ByWayOf f g g j (Itself g)) so.0.connected;
       together = λ x y a b i. kept old new f g x y m (omega (arith, a, b, u, so.0.long)) (omega (arith, b, u, so.0.long)) (so.0.together x y a b i);
     },
@@ -109,6 +114,7 @@ module _ (t : TypeTable) (sight : Sight) (start : ℕ) (stock : List ℕ) where
   pub far_on : (team : List ℕ) (g f : ℕ) → g ≤ f → SoFarTo g f team → AreComponentsSoFar t sight start stock (g + 1) team
   far_on team g f l so = record {
     long = so.0.long;
+    small = so.0.small;
     connected = so.0.connected;
     together = λ x y a b i. elim (below_or_last y g b) [
       | inl c ↦ so.0.together x y a c i

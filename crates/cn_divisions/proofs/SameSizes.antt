@@ -152,7 +152,7 @@ module _ (t : TypeTable) (sight : Sight) (n : ℕ) (N : Meeting) (alike_n : Have
         (subst (λ (l : List ℕ). AreSizes l sizes) (map_twice C M.operation (range_with_len 0 n)) moved)
 
 -- ---- two processes
-differing_twins : (t : TypeTable) (M : Meeting) → M.operation 0 ≢ M.operation 1 → (p q : ℕ) → p < 2 → q < 2 → M.operation p ≡ M.operation q → division.AreConnected t M (first 2) p q
+pub differing_twins : (t : TypeTable) (M : Meeting) → M.operation 0 ≢ M.operation 1 → (p q : ℕ) → p < 2 → q < 2 → M.operation p ≡ M.operation q → division.AreConnected t M (first 2) p q
 differing_twins t M ne zero zero l u e = division.AreConnected.Itself 0
 differing_twins t M ne zero (suc zero) l u e = absurd (ne e)
 differing_twins t M ne (suc zero) zero l u e = absurd (ne (sym e))

@@ -43,6 +43,7 @@ IsMerged old f g new = (length new ≡ length old) × ((x : ℕ) → x < length 
 pub record AreComponentsSoFar (t : TypeTable) (sight : Sight) (start : ℕ) (stock : List ℕ) (k : ℕ)
     (team : List ℕ) : Type 0 where
   pub long : length team ≡ MOST_OPERATIONS
+  pub small : (f : ℕ) → f < MOST_OPERATIONS → slice_index team f < MOST_OPERATIONS
   pub connected : (f g : ℕ) → f < MOST_OPERATIONS → g < MOST_OPERATIONS
       → slice_index team f ≡ slice_index team g → AreConnected t sight start stock f g
   pub together : (f g : ℕ) → f < g → g < k → AreJoined t sight start stock f g

@@ -1,5 +1,5 @@
 //! The teams of a stock: operations that are joined, or connected by others that are.
-ghost use Rattle.std.specs.Prelude.{◌≡◌, ◌≢◌, ◌<◌, ◌+◌, length};
+ghost use Rattle.std.specs.Prelude.{◌≡◌, ◌≢◌, ◌<◌, ◌+◌, ℕ, length, slice_index};
 ghost use Rattle.cn_divisions.specs.Joins.{AreComponents, AreComponentsSoFar, IsMerged};
 ghost use Rattle.cn_divisions.specs.Levels.{IsSetting};
 ghost use Rattle.cn_divisions.specs.Sights.{sight_of};
@@ -62,8 +62,9 @@ fn with_joined(setting: &Setting<'_>, sight: Sight, start: u8, teams: &Teams, g:
 pub(crate) fn components(setting: &Setting<'_>, sight: Sight, start: u8) -> Teams
     requires setting { IsSetting setting.now }
     requires start { start < length setting.now.table.now.states }
-    ensures { AreComponents setting.now.table.now (sight_of sight) start
+    ensures are { AreComponents setting.now.table.now (sight_of sight) start
         setting.now.stock.now.operations.items MOST_OPERATIONS result }
+    ensures small { (f : ℕ) → f < MOST_OPERATIONS → slice_index result f < MOST_OPERATIONS }
 {
     let mut teams = [0, 1, 2, 3, 4, 5, 6, 7];
     for g in 0..setting.table.operations() {

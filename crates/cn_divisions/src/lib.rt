@@ -2,11 +2,16 @@
 #![tactic(auto)]
 
 mod components;
+mod divisions;
 mod joins;
 mod levels;
+mod search;
 mod sights;
 mod sizes;
+mod teams;
 mod word_sets;
 
+pub use divisions::Division;
+pub use search::Divisions;
 pub use sights::Sight;
 pub use sizes::Numbers;

@@ -1,0 +1,1 @@
+use Rattle.cn_divisions.proofs.teams.is_parted.Goals as goal
