@@ -1,4 +1,6 @@
 pub mod Counting
+pub mod Extending
+pub mod Finding
 pub mod Known
 pub mod Links
 pub mod Looks

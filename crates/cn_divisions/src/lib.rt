@@ -12,6 +12,6 @@ mod teams;
 mod word_sets;
 
 pub use divisions::Division;
-pub use search::Divisions;
+pub use search::{Divisions, find_divisions};
 pub use sights::Sight;
 pub use sizes::Numbers;
