@@ -1,15 +1,17 @@
 -- Lists of divisions that grow.
-use Rattle.std.proofs.Common.{ℕ, ◌≡◌, ◌⊎◌, inl, inr, List, [], ◌∷◌, ◌++◌, All, Option, Some, None, length, refl, sym, ap, ◌∙◌, subst, append-nil, append_assoc, slice_get}
+use Rattle.std.proofs.Common.{ℕ, ◌≡◌, ◌+◌, ◌<◌, ◌⊎◌, inl, inr, List, [], ◌∷◌, ◌++◌, All, Option, Some, None, length, refl, sym, ap, ◌∙◌, subst, append-nil, append_assoc, slice_get}
 use Rattle.std.proofs.lemmas.List.Elements.{All-append, All-cons, All-nil}
 use Rattle.std.proofs.lemmas.Option.{none-some, same_Some, slice_get_within}
 use Rattle.cn_table.specs.TypeTable.{TypeTable}
 use Rattle.cn_meetings.specs.Meeting.{Meeting, Sight}
-use Rattle.cn_stocks.specs.Words.{HaveSame}
+use Rattle.cn_stocks.specs.Words.{HaveSame, IsKnown}
+use Rattle.cn_outcomes.proofs.Packing.{below_or_last}
 use Rattle.cn_stocks.proofs.StockLemmas.{get_before}
 use Rattle.cn_divisions.specs.declared.divisions.Division.{Division}
-use Rattle.cn_divisions.specs.Divisions.{AreParted, HaveSizesOf, IsFinestOf, IsMeetingOf, operations_of, teams_of}
+use Rattle.cn_divisions.specs.Divisions.{AreParted, HaveSizesOf, IsDivision, IsFinestOf, IsMeetingOf, operations_of, teams_of}
 use Rattle.cn_divisions.specs.Found.{HasDivisionOf, HaveSizes, IsAdded, IsExtended}
 use Rattle.cn_divisions.specs.Sizes.{AreSizes}
+use Rattle.cn_divisions.proofs.Links.{process_of}
 
 pub extended_same : (xs : List Division) → IsExtended xs xs
 extended_same xs = ([], sym (append-nil xs))
@@ -31,11 +33,11 @@ extended_sizes t n M old new x has team finest parted =
     (h.0, h.1, subst (λ (l : List Division). slice_get l h.0 ≡ Some h.1) (sym x.1) (get_before old x.0 h.0 (slice_get_within old h.0 h.1 h.2) ∙ h.2), h.3)
 
 -- what is found of a stock and a start state is in the list
-pub found_sizes : (t : TypeTable) (sight : Sight) (start n : ℕ) (items : List ℕ) (found : Option Division) (d : Division) (new : List Division) → found ≡ Some d → HasDivisionOf t sight start items found
+pub found_sizes : (t : TypeTable) (sight : Sight) (start : ℕ) (items : List ℕ) (found : Option Division) (d : Division) (new : List Division) → found ≡ Some d → HasDivisionOf t sight start items found
     → HaveSizes new d.sizes.items → (M : Meeting) (team : ℕ → ℕ) → IsMeetingOf t sight (length items) M → M.start ≡ start
     → HaveSame items (operations_of M (length items)) → IsFinestOf t M (length items) team → AreParted (length items) team
     → (i : ℕ) × (e : Division) × (slice_get new i ≡ Some e) × AreSizes (teams_of team (length items)) e.sizes.items
-found_sizes t sight start n items found d new e has there M team is begins same finest parted =
+found_sizes t sight start items found d new e has there M team is begins same finest parted =
     let h = has M team is begins same finest parted in
     let at = there in
     let one : h.0 ≡ d = same_Some _ _ (sym h.1 ∙ e) in
@@ -46,3 +48,35 @@ pub none_found : (t : TypeTable) (sight : Sight) (start : ℕ) (items : List ℕ
     → ¬ AreParted (length items) team
 none_found t sight start items found e has M team is begins same finest parted =
     let h = has M team is begins same finest parted in none-some h.0 (sym e ∙ h.1)
+
+-- ---- the divisions of one stock, by start states
+pub record FoundTo (t : TypeTable) (sight : Sight) (items : List ℕ) (old : List Division) (k : ℕ) (found : List Division) : Type 0 where
+  pub are : All (IsDivision t sight (length items)) found
+  pub kept : IsExtended old found
+  pub done : (M : Meeting) → IsMeetingOf t sight (length items) M → M.start < k → HaveSame items (operations_of M (length items)) → HaveSizesOf t (length items) M found
+
+pub found_more : (t : TypeTable) (sight : Sight) (items : List ℕ) (old : List Division) (k : ℕ) (found new : List Division) (option : Option Division) (d : Division) → option ≡ Some d
+    → HasDivisionOf t sight k items option → IsDivision t sight (length items) d → IsAdded found d new → HaveSizes new d.sizes.items → FoundTo t sight items old k found → FoundTo t sight items old (k + 1) new
+found_more t sight items old k found new option d e has is added there so = record {
+  are = added_all (IsDivision t sight (length items)) found new d added so.are is;
+  kept = extended_on old found new so.kept (added_extended found new d added);
+  done = λ M m l same. elim (below_or_last M.start k l) [
+    | inl u ↦ extended_sizes t (length items) M found new (added_extended found new d added) (so.done M m u same)
+    | inr b ↦ (λ team finest parted. found_sizes t sight k items option d new e has there M team m b same finest parted)
+  ];
+}
+
+pub found_none : (t : TypeTable) (sight : Sight) (items : List ℕ) (old : List Division) (k : ℕ) (found : List Division) (option : Option Division) → option ≡ None
+    → HasDivisionOf t sight k items option → FoundTo t sight items old k found → FoundTo t sight items old (k + 1) found
+found_none t sight items old k found option e has so = record {
+  are = so.are;
+  kept = so.kept;
+  done = λ M m l same. elim (below_or_last M.start k l) [
+    | inl u ↦ so.done M m u same
+    | inr b ↦ (λ team finest parted. absurd (none_found t sight k items option e has M team m b same finest parted))
+  ];
+}
+
+-- the operations of a meeting are those of the type
+pub meeting_known : (t : TypeTable) (sight : Sight) (n : ℕ) (M : Meeting) → IsMeetingOf t sight n M → IsKnown (length t.operations) (operations_of M n)
+meeting_known t sight n M is o l = let d = process_of t M n sight is.looks (operations_of M n) (λ o. refl) o l in subst (λ (x : ℕ). x < length t.operations) d.2 (is.operations d.0 d.1)
