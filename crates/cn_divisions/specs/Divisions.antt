@@ -72,9 +72,17 @@ HaveSizesOf t n M divisions = (team : ℕ → ℕ) → IsFinestOf t M n team →
     → (i : ℕ) × (d : Division) × (slice_get divisions i ≡ Some d)
     × AreSizes (teams_of team n) d.sizes.items
 
--- each is a division, and the sizes of each division of a meeting of the type are among theirs
-pub record AreAllSizes (t : TypeTable) (sight : Sight) (n : ℕ) (divisions : List Division) : Type 0 where
+-- no two of the divisions have the same sizes
+abbrev pub DifferInSizes : List Division → Type 0
+DifferInSizes divisions = (i j : ℕ) (d e : Division) → slice_get divisions i ≡ Some d
+    → slice_get divisions j ≡ Some e → d.sizes.items ≡ e.sizes.items → i ≡ j
+
+-- each is a division, no two have the same sizes, and those of each division of a meeting of the
+-- type are among theirs
+pub record AreAllSizes (t : TypeTable) (sight : Sight) (n : ℕ) (divisions : List Division) : Type 0
+    where
   pub are : All (IsDivision t sight n) divisions
+  pub once : DifferInSizes divisions
   pub all : (M : Meeting) → IsMeetingOf t sight n M → HaveSizesOf t n M divisions
 
 -- the divisions of n processes by each sight

@@ -23,9 +23,9 @@ abbrev pub HaveSizes : List Division → List ℕ → Type 0
 HaveSizes divisions sizes =
     (i : ℕ) × (d : Division) × (slice_get divisions i ≡ Some d) × (d.sizes.items ≡ sizes)
 
--- the list is as before, or the division stands behind it
+-- the list is as before, or the division, whose sizes were not there, stands behind it
 abbrev pub IsAdded : List Division → Division → List Division → Type 0
-IsAdded old d new = (new ≡ old) ⊎ (new ≡ old ++ d ∷ [])
+IsAdded old d new = (new ≡ old) ⊎ ((new ≡ old ++ d ∷ []) × ¬ HaveSizes old d.sizes.items)
 
 -- nothing of the old list is lost
 abbrev pub IsExtended : List Division → List Division → Type 0

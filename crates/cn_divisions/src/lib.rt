@@ -4,6 +4,7 @@
 mod components;
 mod divisions;
 mod joins;
+pub mod laws;
 mod levels;
 mod search;
 mod sights;

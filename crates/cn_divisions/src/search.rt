@@ -5,7 +5,7 @@ ghost use Rattle.cn_meetings.specs.Meeting.{Meeting};
 ghost use Rattle.cn_stocks.specs.Each.{EachAt};
 ghost use Rattle.cn_stocks.specs.Stocks.{SomeAll};
 ghost use Rattle.cn_stocks.specs.Words.{HaveSame};
-ghost use Rattle.cn_divisions.specs.Divisions.{AreAllSizes, AreDivisions, HaveSizesOf, IsDivision, IsMeetingOf, operations_of};
+ghost use Rattle.cn_divisions.specs.Divisions.{AreAllSizes, AreDivisions, DifferInSizes, HaveSizesOf, IsDivision, IsMeetingOf, operations_of};
 ghost use Rattle.cn_divisions.specs.Found.{IsExtended};
 ghost use Rattle.cn_divisions.specs.Levels.{AreNext, IsLevel, IsSetting};
 ghost use Rattle.cn_divisions.specs.Sights.{sight_of};
@@ -39,8 +39,10 @@ fn add_stock(
     requires many { 2 ≤ length setting.now.stock.now.operations.items }
     requires are { All (IsDivision setting.now.table.now (sight_of sight)
         (length setting.now.stock.now.operations.items)) found.now.items }
+    requires once { DifferInSizes found.now.items }
     ensures are { IfOk result (λ _. All (IsDivision setting.now.table.now (sight_of sight)
         (length setting.now.stock.now.operations.items)) found.new.items) }
+    ensures once { IfOk result (λ _. DifferInSizes found.new.items) }
     ensures kept { IfOk result (λ _. IsExtended found.old.items found.new.items) }
     ensures all { IfOk result (λ _. (M : Meeting)
         → IsMeetingOf setting.now.table.now (sight_of sight)

@@ -7,7 +7,7 @@ use Rattle.cn_divisions.proofs.search.add_stock.Goals as goal
 use Rattle.cn_divisions.proofs.search.add_stock.Goals.{in-Some+in_ok-add, in_default}
 
 pub loop-start-init : goal.loop-start-init
-loop-start-init c = record { are = c.requires.are; kept = extended_same c.args.found.now.items; done = λ M m l same. absurd (omega (arith, l)) }
+loop-start-init c = record { are = c.requires.are; once = c.requires.once; kept = extended_same c.args.found.now.items; done = λ M m l same. absurd (omega (arith, l)) }
 
 pub loop-start-preserved : goal.loop-start-preserved
 loop-start-preserved c =

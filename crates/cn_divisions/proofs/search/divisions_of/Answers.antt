@@ -1,6 +1,6 @@
 use Rattle.std.proofs.Common.{ℕ, List, ◌≡◌, ◌+◌, ◌<◌, ◌≤◌, All, Some, arith, inl, inr, length, refl, slice_get, subst, sym, ap, ◌∙◌}
 use Rattle.std.proofs.lemmas.List.Elements.{All-nil}
-use Rattle.std.proofs.lemmas.Option.{slice_get_read}
+use Rattle.std.proofs.lemmas.Option.{none-some, slice_get_read}
 use Rattle.cn_meetings.specs.Meeting.{Meeting}
 use Rattle.cn_outcomes.proofs.Packing.{below_or_last}
 use Rattle.cn_stocks.specs.declared.stocks.Stock.{Stock}
@@ -8,7 +8,7 @@ use Rattle.cn_stocks.specs.Stocks.{items_at}
 use Rattle.cn_stocks.specs.Words.{HaveSame}
 use Rattle.cn_stocks.proofs.StockLemmas.{items_of, items_within, same_items}
 use Rattle.cn_divisions.specs.declared.divisions.Division.{Division}
-use Rattle.cn_divisions.specs.Divisions.{HaveSizesOf, IsDivision, IsMeetingOf, operations_of}
+use Rattle.cn_divisions.specs.Divisions.{DifferInSizes, HaveSizesOf, IsDivision, IsMeetingOf, operations_of}
 use Rattle.cn_divisions.specs.Levels.{IsNext}
 use Rattle.cn_divisions.specs.Sights.{sight_of}
 use Rattle.cn_divisions.proofs.Extending.{extended_sizes, meeting_known}
@@ -50,6 +50,7 @@ add_stock-requires-clause-are c =
 pub loop-place-init : goal.loop-place-init
 loop-place-init c = record {
   are = subst (λ (xs : List Division). All (IsDivision c.args.table.now (sight_of c.args.sight) c.args.n) xs) (sym c.new-found.ensures.items) (All-nil (IsDivision c.args.table.now (sight_of c.args.sight) c.args.n));
+  once = subst DifferInSizes (sym c.new-found.ensures.items) (λ i j d e at there same. absurd (none-some d at));
   done = λ M m i items l at same. absurd (omega (arith, l));
 }
 
@@ -71,6 +72,7 @@ loop-place-preserved c =
     subst (λ (m : ℕ). (M : Meeting) → IsMeetingOf t sight m M → HaveSame s.operations.items (operations_of M m) → HaveSizesOf t m M new) long added.all in
     record {
       are = subst (λ (m : ℕ). All (IsDivision t sight m) new) long added.are;
+      once = added.once;
       done = λ M m i items l where_at same. elim (below_or_last i k l) [
         | inl u ↦ extended_sizes t n M c.loop-place.found.items new added.kept (c.loop-place.invariant.done M m i items u where_at same)
         | inr e ↦ its M m (subst (λ (xs : List ℕ). HaveSame xs (operations_of M n)) (same_items all k items s.operations.items (subst (λ (j : ℕ). items_at all j ≡ Some items) e where_at) at) same)
@@ -85,6 +87,7 @@ returns c =
     let all = c.args.stocks.now.list.items in
     record {
       are = c.loop-place.invariant.are;
+      once = c.loop-place.invariant.once;
       all = λ M m.
           let found = c.requires.stocks.1.all (operations_of M n) (meeting_known t sight n M m) (length_teams M.operation n) in
           let l = items_within all found.0 found.1.0 found.1.1 in
