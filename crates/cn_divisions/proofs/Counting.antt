@@ -1,15 +1,15 @@
 -- How many elements of a list are so, counted in several ways.
-use Rattle.std.proofs.Common.{ℕ, zero, suc, ◌≡◌, ◌≢◌, ◌+◌, ◌-◌, ◌*◌, ◌<◌, ◌≤◌, ◌⊎◌, inl, inr, Bool, true, false, cond, List, [], ◌∷◌, ◌++◌, length, length-append, get_or, take, drop, replicate, refl, sym, ap, ◌∙◌, subst, arith, nat_eq, nat_lt}
+use Rattle.std.proofs.Common.{ℕ, zero, suc, ◌≡◌, ◌≢◌, ◌+◌, ◌*◌, ◌<◌, ◌≤◌, inl, inr, Bool, true, false, cond, List, [], ◌∷◌, ◌++◌, length, length-append, get_or, take, drop, replicate, refl, sym, ap, ◌∙◌, subst, arith, nat_eq, nat_lt}
 use Rattle.std.specs.List.{count_by}
 use Rattle.std.proofs.Math.Seq.{take-length}
-use Rattle.std.proofs.lemmas.Bool.{eqb-true, eq-eqb, ne_eqb}
+use Rattle.std.proofs.lemmas.Bool.{eqb-true, ne_eqb}
 use Rattle.std.proofs.lemmas.Bool.Decides.{nat_tests}
 use Rattle.std.proofs.lemmas.List.{length-replicate, take-append-drop}
 use Rattle.std.proofs.lemmas.List.Sums.{count_by-le-length, count_by_more_no, count_by_more_yes, sum_by-append, sum_by-cons}
 use Rattle.cn_choice.proofs.ListLemmas.Members.{IsIn, IsIn-append_cases, Pairs, Pairs-append, each_from}
 use Rattle.cn_stocks.specs.Words.{times}
 use Rattle.cn_stocks.proofs.StockLemmas.{before_or_behind}
-use Rattle.cn_stocks.proofs.Times.{one, one_at, one_else, one_of, same_or, times_append, times_cons, times_none}
+use Rattle.cn_stocks.proofs.Times.{one, one_else, one_of, same_or, times_append, times_cons, times_none}
 
 -- 1 or 0
 abbrev pub as_one : Bool → ℕ

@@ -1,5 +1,5 @@
 -- What is found of one stock and one start state.
-use Rattle.std.proofs.Common.{ℕ, zero, suc, ◌≡◌, ◌≢◌, ◌+◌, ◌*◌, ◌<◌, ◌≤◌, inl, inr, Bool, true, false, List, [], ◌∷◌, length, map, get_or, refl, sym, ap, ◌∙◌, subst, arith, nat_eq, true≢false}
+use Rattle.std.proofs.Common.{ℕ, ◌≡◌, ◌≢◌, ◌+◌, ◌*◌, ◌<◌, ◌≤◌, inl, inr, Bool, true, false, List, [], ◌∷◌, length, get_or, refl, sym, ap, ◌∙◌, subst, arith, nat_eq}
 use Rattle.std.specs.List.{count_by, range_with_len}
 use Rattle.std.specs.Prelude.{slice_index}
 use Rattle.std.proofs.lemmas.Bool.{eqb-true, eq-eqb}
@@ -7,13 +7,13 @@ use Rattle.std.proofs.lemmas.List.{length-map}
 use Rattle.std.proofs.lemmas.List.FromFn.{length-range_with_len}
 use Rattle.std.proofs.lemmas.List.Sums.{count_by-le-length}
 use Rattle.cn_table.specs.TypeTable.{TypeTable}
-use Rattle.cn_choice.proofs.ListLemmas.Members.{IsIn, IsIn-at, IsIn-map, place_of}
+use Rattle.cn_choice.proofs.ListLemmas.Members.{IsIn, IsIn-map, place_of}
 use Rattle.cn_choice.proofs.ListLemmas.Permutations.{range_in}
 use Rattle.cn_meetings.specs.Meeting.{Meeting, Sight}
 use Rattle.cn_meetings.specs.Meeting.Sight.{State}
 use Rattle.cn_stocks.specs.Words.{HaveSame, IsKnown, times}
 use Rattle.cn_stocks.proofs.Times.{one, one_else, one_of, same_or, times_cons, times_none, times_of_place}
-use Rattle.cn_divisions.specs.Divisions.{AreParted, HaveSight, IsFinestOf, IsMeetingOf, meeting_of, operations_of, teams_of}
+use Rattle.cn_divisions.specs.Divisions.{AreParted, IsFinestOf, IsMeetingOf, meeting_of, operations_of, teams_of}
 use Rattle.cn_divisions.specs.Sizes.{AreSizes}
 use Rattle.cn_divisions.proofs.Counting.{as_one, count_cons, in_times}
 use Rattle.cn_divisions.proofs.ProcessTeams.{own_operations}

@@ -1,6 +1,6 @@
 -- An order of the first processes is a word within the stock of their operations, and each such word
 -- is one. So processes are joined where their operations are.
-use Rattle.std.proofs.Common.{ℕ, zero, suc, ◌≡◌, ◌≢◌, ◌↔◌, ◌+◌, ◌<◌, ◌≤◌, ◌⊎◌, inl, inr, Bool, true, false, List, [], ◌∷◌, ◌++◌, length, map, get_or, slice_get, Some, refl, sym, ap, ◌∙◌, subst, arith, nat_lt}
+use Rattle.std.proofs.Common.{ℕ, zero, suc, ◌≡◌, ◌≢◌, ◌↔◌, ◌+◌, ◌<◌, ◌≤◌, inl, inr, Bool, List, [], ◌∷◌, ◌++◌, length, map, get_or, slice_get, Some, refl, sym, ap, ◌∙◌, subst, arith}
 use Rattle.std.proofs.lemmas.Bool.Decides.{nat_tests}
 use Rattle.std.specs.List.{range_with_len, remove}
 use Rattle.std.proofs.lemmas.List.{map-append}
@@ -10,10 +10,10 @@ use Rattle.cn_table.specs.Run.{state_after}
 use Rattle.cn_choice.proofs.ListLemmas.Arrangements.{Differ, IsTaken, differ_taken, taken_differ, taken_known}
 use Rattle.cn_choice.proofs.ListLemmas.Members.{AllPairs-from_Pairs, IsIn, each_from}
 use Rattle.cn_choice.proofs.ListLemmas.Permutations.{in_range, range_in, range_rises}
-use Rattle.cn_proto.specs.Order.{after, answers, IsAnswered}
-use Rattle.cn_stocks.specs.Words.{BeginsWith, HaveSame, IsWithin, Shows, times}
-use Rattle.cn_stocks.proofs.Steps.{shows_asked, shows_same}
-use Rattle.cn_stocks.proofs.Times.{one, one_at, one_of, one_else, same_or, same_sym, times_append, times_between, times_cons, times_none}
+use Rattle.cn_proto.specs.Order.{after, answers}
+use Rattle.cn_stocks.specs.Words.{BeginsWith, HaveSame, IsWithin, times}
+use Rattle.cn_stocks.proofs.Steps.{shows_asked}
+use Rattle.cn_stocks.proofs.Times.{one, one_else, same_or, times_append, times_between, times_cons, times_none}
 use Rattle.cn_stocks.proofs.WordOrders.{differ_spread, map_parts, spread_in, taken_within, times_remove, to_taken}
 use Rattle.cn_meetings.specs.Division as division
 use Rattle.cn_meetings.specs.Meeting.{Meeting, Sight, act, see, sees}

@@ -1,12 +1,11 @@
 -- The teams of the processes that do the operations of a stock, one each.
-use Rattle.std.proofs.Common.{ℕ, zero, suc, ◌≡◌, ◌≢◌, ◌↔◌, ◌<◌, ◌≤◌, ◌⊎◌, inl, inr, List, [], ◌∷◌, length, map, get_or, refl, sym, ap, ◌∙◌, subst, arith}
-use Rattle.std.specs.List.{range_with_len}
+use Rattle.std.proofs.Common.{ℕ, zero, suc, ◌≡◌, ◌≢◌, ◌↔◌, ◌<◌, ◌≤◌, ◌⊎◌, inl, inr, List, [], length, refl, sym, ap, ◌∙◌, subst, arith}
 use Rattle.std.specs.Prelude.{slice_index}
 use Rattle.cn_table.specs.TypeTable.{TypeTable, transition}
 use Rattle.cn_meetings.specs.Division as division
 use Rattle.cn_meetings.specs.Meeting.{Meeting, Sight}
 use Rattle.cn_stocks.specs.Words.{HaveSame, IsKnown, times}
-use Rattle.cn_stocks.proofs.Times.{place_in, same_or, times_of_place}
+use Rattle.cn_stocks.proofs.Times.{place_in, times_of_place}
 use Rattle.cn_stocks.proofs.WordOrders.{whole}
 use Rattle.cn_divisions.specs.Counts.{AreTeams}
 use Rattle.cn_divisions.specs.Divisions.{IsFinestOf, first, meeting_of, operations_of}

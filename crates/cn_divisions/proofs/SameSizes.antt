@@ -1,8 +1,7 @@
 -- The finest divisions of meetings with one stock of operations have the same sizes.
-use Rattle.std.proofs.Common.{ℕ, zero, suc, ◌≡◌, ◌≢◌, ◌↔◌, ◌+◌, ◌*◌, ◌<◌, ◌≤◌, ◌⊎◌, inl, inr, Bool, true, false, cond, List, [], ◌∷◌, length, map, get_or, refl, sym, ap, ◌∙◌, subst, arith, nat_eq, true≢false}
+use Rattle.std.proofs.Common.{ℕ, zero, suc, ◌≡◌, ◌≢◌, ◌↔◌, ◌+◌, ◌<◌, ◌≤◌, ◌⊎◌, inl, inr, Bool, true, false, cond, List, [], ◌∷◌, map, refl, sym, ap, ◌∙◌, subst, arith, nat_eq, true≢false}
 use Rattle.std.specs.List.{count_by, range_with_len}
-use Rattle.std.specs.Prelude.{slice_index}
-use Rattle.std.proofs.lemmas.Bool.{eqb-true, eq-eqb, ne_eqb}
+use Rattle.std.proofs.lemmas.Bool.{eqb-true, eq-eqb}
 use Rattle.cn_table.specs.TypeTable.{TypeTable}
 use Rattle.cn_choice.proofs.ListLemmas.Members.{IsIn}
 use Rattle.cn_choice.proofs.ListLemmas.Permutations.{in_range, range_in}
@@ -11,12 +10,12 @@ use Rattle.cn_meetings.specs.Meeting.{Meeting, Sight}
 use Rattle.cn_stocks.specs.Words.{HaveSame, IsKnown, times}
 use Rattle.cn_stocks.proofs.StockLemmas.{before_or_behind}
 use Rattle.cn_stocks.proofs.Times.{one, one_else, one_of, one_some, same_or, same_sym, times_cons, times_none}
-use Rattle.cn_divisions.specs.Divisions.{HaveSight, IsFinestOf, first, meeting_of, operations_of}
+use Rattle.cn_divisions.specs.Divisions.{HaveSight, IsFinestOf, first, operations_of}
 use Rattle.cn_divisions.specs.Joins.{AreConnected}
 use Rattle.cn_divisions.specs.Sizes.{AreSizes}
 use Rattle.cn_divisions.proofs.Counting.{as_one, by_value, count_cons, in_times, total}
 use Rattle.cn_divisions.proofs.Links.{connected_by_operations, process_of, twins_of_three}
-use Rattle.cn_divisions.proofs.Twins.{response_1, response_2, twins_connected}
+use Rattle.cn_divisions.proofs.Twins.{twins_connected}
 
 -- ---- teams under other names
 abbrev pub AreAlikeBelow : ℕ → (ℕ → ℕ) → (ℕ → ℕ) → Type 0

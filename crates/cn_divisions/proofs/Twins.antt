@@ -1,5 +1,5 @@
 -- Two processes with one operation.
-use Rattle.std.proofs.Common.{ℕ, zero, suc, ◌≡◌, ◌≢◌, ◌↔◌, ◌+◌, ◌<◌, ◌⊎◌, inl, inr, Bool, List, [], ◌∷◌, slice_get, Some, refl, sym, ap, ◌∙◌, subst, arith}
+use Rattle.std.proofs.Common.{ℕ, zero, suc, ◌≡◌, ◌≢◌, ◌↔◌, ◌<◌, ◌⊎◌, inl, inr, List, [], ◌∷◌, slice_get, Some, refl, sym, ap, ◌∙◌, subst, arith}
 use Rattle.cn_table.specs.TypeTable.{TypeTable, transition}
 use Rattle.cn_choice.proofs.ListLemmas.Members.{AllPairs-from_Pairs, IsIn}
 use Rattle.cn_proto.specs.Order.{answers}
@@ -38,7 +38,7 @@ module _ (t : TypeTable) (M : Meeting) (a : ℕ) (first_is : M.operation 0 ≡ a
       inr (
         λ g. apart (sym g ∙ sym same),
         sym resp ∙ (ap (λ (o : ℕ). (transition t o (transition t (M.operation p) M.start).1).0) (op_is x (from_first 2 x (is.members 1 x refl)))
-        ∙ ap (λ (o : ℕ). (transition t a (transition t o M.start).1).0) (op_is p (from_first 2 p (is.members 0 p refl)))),
+            ∙ ap (λ (o : ℕ). (transition t a (transition t o M.start).1).0) (op_is p (from_first 2 p (is.members 0 p refl)))),
       )
   response_in p (x ∷ behind) is (suc (suc k)) to r e f =
       let tail = order_tail (first 2) p (x ∷ behind) is in
@@ -106,10 +106,13 @@ module _ (t : TypeTable) (M : Meeting) (a : ℕ) (first_is : M.operation 0 ≡ a
 
   -- they are in one team exactly if the second one gets the response of the first one
   pub twins_connected : (p q : ℕ) → p < 2 → q < 2 → division.AreConnected t M (first 2) p q ↔ ((p ≡ q) ⊎ (response_1 ≡ response_2))
-  twins_connected p q l m = (along p q, λ h. elim (same_or p q) [
-    | inl e ↦ subst (division.AreConnected t M (first 2) p) e (division.AreConnected.Itself p)
-    | inr n ↦ elim h [
-      | inl e ↦ absurd (n e)
-      | inr r ↦ division.AreConnected.ByWayOf p q q (twins_joined r p q n l m) (division.AreConnected.Itself q)
-    ]
-  ])
+  twins_connected p q l m = (
+    along p q,
+    λ h. elim (same_or p q) [
+      | inl e ↦ subst (division.AreConnected t M (first 2) p) e (division.AreConnected.Itself p)
+      | inr n ↦ elim h [
+        | inl e ↦ absurd (n e)
+        | inr r ↦ division.AreConnected.ByWayOf p q q (twins_joined r p q n l m) (division.AreConnected.Itself q)
+      ]
+    ],
+  )

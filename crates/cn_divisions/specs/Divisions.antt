@@ -80,10 +80,10 @@ DifferInSizes divisions = (i j : ℕ) (d e : Division) → slice_get divisions i
 -- each is a division, no two have the same sizes, and those of each division of a meeting of the
 -- type are among theirs
 pub record AreAllSizes (t : TypeTable) (sight : Sight) (n : ℕ) (divisions : List Division) : Type 0
-    where
-  pub are : All (IsDivision t sight n) divisions
-  pub once : DifferInSizes divisions
-  pub all : (M : Meeting) → IsMeetingOf t sight n M → HaveSizesOf t n M divisions
+  where
+    pub are : All (IsDivision t sight n) divisions
+    pub once : DifferInSizes divisions
+    pub all : (M : Meeting) → IsMeetingOf t sight n M → HaveSizesOf t n M divisions
 
 -- the divisions of n processes by each sight
 abbrev pub AreDivisions : TypeTable → ℕ → Divisions → Type 0

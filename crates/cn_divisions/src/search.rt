@@ -168,6 +168,7 @@ impl Search {
 pub fn find_divisions(alloc: Global, table: &Table, most: u8) -> Result<Vec<Divisions>, AllocError>
     requires some { 2 ≤ most }
     requires few { most ≤ MOST_PROCESSES }
+    // promise: finest-divisions (AreDivisions: AreAllSizes, IsDivision, HaveSizesOf)
     ensures { IfOk result (λ all. EachAt (λ i d. AreDivisions table.now (i + 2) d) (most - 1)
         all.items) }
 {

@@ -1,4 +1,4 @@
-use Rattle.std.proofs.Common.{ℕ, ◌≡◌, arith, length, refl, subst, sym}
+use Rattle.std.proofs.Common.{ℕ, ◌≡◌, arith, length, refl, subst}
 use Rattle.cn_divisions.specs.Joins.{AreComponentsSoFar}
 use Rattle.cn_divisions.specs.Sights.{sight_of}
 use Rattle.cn_divisions.proofs.Merging.{components_are, first_far}

@@ -1,4 +1,4 @@
-use Rattle.std.proofs.Common.{ℕ, ◌≡◌, ◌<◌, ◌+◌, List, arith, subst, sym, ◌∙◌, true≢false}
+use Rattle.std.proofs.Common.{◌<◌, ◌+◌, arith, subst, sym, ◌∙◌, true≢false}
 use Rattle.cn_divisions.specs.Sights.{sight_of}
 use Rattle.cn_divisions.proofs.Merging.{SoFarTo, far_on, merged_far, same_far}
 use Rattle.cn_divisions.proofs.components.with_joined.Goals as goal

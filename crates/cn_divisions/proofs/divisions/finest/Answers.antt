@@ -1,6 +1,4 @@
-use Rattle.std.proofs.Common.{ℕ, List, ◌∙◌, ◌<◌, ◌≡◌, ap, arith, length, refl, slice_index, subst, sym, true≢false}
-use Rattle.cn_choice.specs.declared.limits.TheConstants.{MOST_PROCESSES}
-use Rattle.cn_stocks.specs.Words.{times}
+use Rattle.std.proofs.Common.{ℕ, List, ◌∙◌, ◌≡◌, ap, length, refl, slice_index, subst, sym, true≢false}
 use Rattle.cn_divisions.specs.Counts.{AreTeams}
 use Rattle.cn_divisions.specs.Divisions.{AreParted, IsFinestOf, IsMeetingOf, meeting_of}
 use Rattle.cn_divisions.specs.Sights.{sight_of}
@@ -50,6 +48,9 @@ returns-clause-all c M team is begins same its parted =
     let s = c.args.setting.now in
     let items = s.stock.now.operations.items in
     let teams = c.process_teams-teams.result.items in
-    let are = subst (λ (xs : List ℕ). AreSizes xs c.sizes-sizes.result.items) c.as_slice.ensures.value c.sizes-sizes.ensures in
-    (_, refl, sizes_move s.table.now (sight_of c.args.sight) c.args.start (length s.table.now.operations) items teams c.sizes-sizes.result.items c.requires.setting.stock_is.known c.requires.many
-    c.process_teams-teams.ensures.long c.process_teams-teams.ensures.finest are M team is begins same its)
+    let are = subst (λ (xs : List ℕ). AreSizes xs c.sizes-sizes.result.items) c.as_slice.ensures.value c.sizes-sizes.ensures in (
+      _,
+      refl,
+      sizes_move s.table.now (sight_of c.args.sight) c.args.start (length s.table.now.operations) items teams c.sizes-sizes.result.items c.requires.setting.stock_is.known c.requires.many
+          c.process_teams-teams.ensures.long c.process_teams-teams.ensures.finest are M team is begins same its,
+    )

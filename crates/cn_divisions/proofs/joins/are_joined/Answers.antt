@@ -2,8 +2,6 @@ use Rattle.std.proofs.Common.{ℕ, ◌≤◌, ◌∙◌, inl, inr, arith, refl, 
 use Rattle.cn_outcomes.proofs.Packing.{below_or_last}
 use Rattle.cn_stocks.specs.Words.{Shows, times}
 use Rattle.cn_stocks.proofs.Steps.{shows_asked}
-use Rattle.cn_divisions.specs.Joins.{Tells}
-use Rattle.cn_divisions.specs.Sights.{sight_of}
 use Rattle.cn_divisions.proofs.Known.{shows_known}
 use Rattle.cn_divisions.proofs.Looks.{alike_seen, look_alike}
 use Rattle.cn_divisions.proofs.joins.are_joined.Goals as goal

@@ -1,4 +1,4 @@
-use Rattle.std.proofs.Common.{ℕ, ◌≡◌, ◌+◌, ◌<◌, Global, arith, length, subst, sym}
+use Rattle.std.proofs.Common.{◌+◌, Global, arith, subst, sym}
 use Rattle.std.specs.declared.vec.Vec.{Vec}
 use Rattle.cn_divisions.specs.declared.divisions.Division.{Division}
 use Rattle.cn_divisions.specs.Sights.{sight_of}

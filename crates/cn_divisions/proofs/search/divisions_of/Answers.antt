@@ -1,4 +1,4 @@
-use Rattle.std.proofs.Common.{ℕ, List, ◌≡◌, ◌+◌, ◌<◌, ◌≤◌, All, Some, arith, inl, inr, length, refl, slice_get, subst, sym, ap, ◌∙◌}
+use Rattle.std.proofs.Common.{ℕ, List, ◌≡◌, All, Some, arith, inl, inr, length, refl, slice_get, subst, sym, ap}
 use Rattle.std.proofs.lemmas.List.Elements.{All-nil}
 use Rattle.std.proofs.lemmas.Option.{none-some, slice_get_read}
 use Rattle.cn_meetings.specs.Meeting.{Meeting}
@@ -9,7 +9,6 @@ use Rattle.cn_stocks.specs.Words.{HaveSame}
 use Rattle.cn_stocks.proofs.StockLemmas.{items_of, items_within, same_items}
 use Rattle.cn_divisions.specs.declared.divisions.Division.{Division}
 use Rattle.cn_divisions.specs.Divisions.{DifferInSizes, HaveSizesOf, IsDivision, IsMeetingOf, operations_of}
-use Rattle.cn_divisions.specs.Levels.{IsNext}
 use Rattle.cn_divisions.specs.Sights.{sight_of}
 use Rattle.cn_divisions.proofs.Extending.{extended_sizes, meeting_known}
 use Rattle.cn_divisions.proofs.Finding.{length_teams}

@@ -1,4 +1,4 @@
-use Rattle.std.proofs.Common.{ℕ, List, ◌≡◌, ◌<◌, All, Some, length}
+use Rattle.std.proofs.Common.{ℕ, List, ◌≡◌, ◌<◌, All, Some}
 use Rattle.cn_meetings.specs.Meeting.{Meeting}
 use Rattle.cn_stocks.specs.Stocks.{items_at}
 use Rattle.cn_stocks.specs.Words.{HaveSame}

@@ -1,4 +1,4 @@
-use Rattle.std.proofs.Common.{ℕ, List, ◌≡◌, ◌+◌, ◌-◌, arith, subst}
+use Rattle.std.proofs.Common.{ℕ, ◌≡◌, ◌+◌, ◌-◌, arith, subst}
 use Rattle.cn_stocks.specs.Each.{EachAt}
 use Rattle.cn_stocks.proofs.EachLemmas.{each_push}
 use Rattle.cn_divisions.specs.declared.search.Divisions.{Divisions}

@@ -1,4 +1,4 @@
-use Rattle.std.proofs.Common.{◌∙◌, ℕ, arith, inl, inr, refl, subst, sym, true≢false}
+use Rattle.std.proofs.Common.{◌∙◌, ℕ, arith, inl, inr, subst, sym, true≢false}
 use Rattle.cn_outcomes.proofs.MemberLemmas.{all_set}
 use Rattle.cn_outcomes.proofs.Packing.{below_or_last}
 use Rattle.cn_stocks.specs.Pairs.{Has}

@@ -1,1 +1,0 @@
-use Rattle.cn_divisions.proofs.teams.is_parted.Goals as goal

@@ -1,4 +1,4 @@
-use Rattle.std.proofs.Common.{ℕ, ◌≡◌, ◌<◌, ◌↔◌, List, ap, arith, get_or, length, slice_index, subst, sym, ◌∙◌}
+use Rattle.std.proofs.Common.{ℕ, ◌≡◌, ◌↔◌, List, ap, arith, get_or, length, slice_index, subst, sym, ◌∙◌}
 use Rattle.cn_table.specs.TypeTable.{transition}
 use Rattle.cn_stocks.proofs.Times.{times_of_place}
 use Rattle.cn_divisions.specs.Sights.{sight_of}

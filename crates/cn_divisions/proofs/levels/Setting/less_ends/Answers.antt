@@ -1,6 +1,4 @@
 use Rattle.std.proofs.Common.{ℕ, List, arith, length, subst}
-use Rattle.cn_stocks.specs.declared.stocks.Stock.{Stock}
-use Rattle.cn_divisions.specs.declared.word_sets.Ends.{Ends}
 use Rattle.cn_stocks.specs.Reach.{AreEnds}
 use Rattle.cn_stocks.proofs.StockLemmas.{items_within, stock_at}
 use Rattle.cn_stocks.proofs.EachLemmas.{each_read}

@@ -1,7 +1,7 @@
-use Rattle.std.proofs.Common.{ℕ, ◌≡◌, ◌+◌, List, length, slice_get, Some, subst, sym}
+use Rattle.std.proofs.Common.{ℕ, ◌≡◌, ◌+◌, List, length, slice_get, Some, subst}
 use Rattle.cn_stocks.specs.declared.stocks.Stock.{Stock}
 use Rattle.cn_stocks.specs.Stocks.{AreAll}
-use Rattle.cn_divisions.specs.Levels.{AreAllEnds, AreAllShown, AreNext}
+use Rattle.cn_divisions.specs.Levels.{AreAllEnds, AreAllShown}
 use Rattle.cn_divisions.proofs.search.Search.next.Goals as goal
 
 pub all_ends-requires : goal.all_ends-requires
