@@ -10,6 +10,8 @@ mod search;
 mod sights;
 mod sizes;
 mod teams;
+#[cfg(test)]
+mod tests;
 mod word_sets;
 
 pub use divisions::Division;
