@@ -1,5 +1,5 @@
 -- Lists of divisions that grow.
-use Rattle.std.proofs.Common.{ℕ, zero, suc, ◌≡◌, ◌+◌, ◌<◌, ◌⊎◌, inl, inr, List, [], ◌∷◌, ◌++◌, All, Option, Some, None, length, refl, sym, ap, ◌∙◌, subst, arith, append-nil, append_assoc, slice_get}
+use Rattle.std.proofs.Common.{ℕ, zero, suc, ◌≡◌, ◌+◌, ◌<◌, ◌≤◌, ◌⊎◌, inl, inr, List, [], ◌∷◌, ◌++◌, All, Option, Some, None, length, refl, sym, ap, ◌∙◌, subst, arith, append-nil, append_assoc, slice_get}
 use Rattle.std.proofs.lemmas.List.Elements.{All-append, All-cons, All-nil}
 use Rattle.std.proofs.lemmas.Option.{none-some, same_Some, slice_get_within}
 use Rattle.cn_table.specs.TypeTable.{TypeTable}
@@ -10,8 +10,15 @@ use Rattle.cn_stocks.proofs.StockLemmas.{before_or_behind, get_before, get_behin
 use Rattle.cn_divisions.specs.declared.divisions.Division.{Division}
 use Rattle.cn_divisions.specs.Divisions.{AreParted, DifferInSizes, HaveSizesOf, IsDivision, IsFinestOf, IsMeetingOf, operations_of, teams_of}
 use Rattle.cn_divisions.specs.Found.{HasDivisionOf, HaveSizes, IsAdded, IsExtended}
+use Rattle.cn_divisions.specs.declared.levels.Setting.{Setting}
+use Rattle.cn_divisions.specs.declared.sights.Sight.{Sight as LookOf}
+use Rattle.cn_divisions.specs.Joins.{IsSplit}
+use Rattle.cn_divisions.specs.Levels.{HasLessStarts, HasStarts}
+use Rattle.cn_divisions.specs.Sights.{sight_of}
 use Rattle.cn_divisions.specs.Sizes.{AreSizes}
+use Rattle.cn_divisions.proofs.Finding.{parted_split}
 use Rattle.cn_divisions.proofs.Links.{process_of}
+use Rattle.cn_divisions.proofs.Splitting.{less_split}
 
 pub extended_same : (xs : List Division) → IsExtended xs xs
 extended_same xs = ([], sym (append-nil xs))
@@ -106,6 +113,25 @@ found_none t sight items old k found option e has so = record {
     | inr b ↦ (λ team finest parted. absurd (none_found t sight k items option e has M team m b same finest parted))
   ];
 }
+
+-- from a state that none of the smaller stocks splits from there is nothing to find
+pub found_skip : (t : TypeTable) (sight : Sight) (items : List ℕ) (old : List Division) (k : ℕ) (found : List Division) → 3 ≤ length items → ¬ IsSplit t sight k items
+    → FoundTo t sight items old k found → FoundTo t sight items old (k + 1) found
+found_skip t sight items old k found many none so = record {
+  are = so.are;
+  once = so.once;
+  kept = so.kept;
+  done = λ M m l same. elim (below_or_last M.start k l) [
+    | inl u ↦ so.done M m u same
+    | inr b ↦ (λ team finest parted. absurd (none (subst (λ (q : ℕ). IsSplit t sight q items) b (parted_split t sight (length items) items M team many m same finest parted))))
+  ];
+}
+
+-- a stock of three operations or more is split only from states in the set
+pub less_set : (s : Setting) (sight : LookOf) (set : ℕ) → HasLessStarts s sight set → 3 ≤ length s.stock.now.operations.items → HasStarts s.table.now sight s.stock.now.operations.items set
+less_set s sight set less many q l split =
+    let r = less_split s.table.now (sight_of sight) q s.stock.now.operations.items many split in
+    less r.0 r.1 r.2 q l r.3
 
 -- the operations of a meeting are those of the type
 pub meeting_known : (t : TypeTable) (sight : Sight) (n : ℕ) (M : Meeting) → IsMeetingOf t sight n M → IsKnown (length t.operations) (operations_of M n)

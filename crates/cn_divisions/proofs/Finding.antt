@@ -12,12 +12,14 @@ use Rattle.cn_choice.proofs.ListLemmas.Permutations.{range_in}
 use Rattle.cn_meetings.specs.Meeting.{Meeting, Sight}
 use Rattle.cn_meetings.specs.Meeting.Sight.{State}
 use Rattle.cn_stocks.specs.Words.{HaveSame, IsKnown, times}
-use Rattle.cn_stocks.proofs.Times.{one, one_else, one_of, same_or, times_cons, times_none, times_of_place}
+use Rattle.cn_stocks.proofs.Times.{place_in, one, one_else, one_of, same_or, times_cons, times_none, times_of_place}
 use Rattle.cn_divisions.specs.Divisions.{AreParted, IsFinestOf, IsMeetingOf, meeting_of, operations_of, teams_of}
+use Rattle.cn_divisions.specs.Joins.{AreConnected, IsSplit}
 use Rattle.cn_divisions.specs.Sizes.{AreSizes}
 use Rattle.cn_divisions.proofs.Counting.{as_one, count_cons, in_times}
-use Rattle.cn_divisions.proofs.ProcessTeams.{own_operations}
-use Rattle.cn_divisions.proofs.SameSizes.{same_sizes}
+use Rattle.cn_divisions.proofs.Links.{connected_by_operations, connected_down, twins_of_three}
+use Rattle.cn_divisions.proofs.ProcessTeams.{own_operations, same_own}
+use Rattle.cn_divisions.proofs.SameSizes.{in_stock, same_sizes}
 
 count_all : (P : ℕ → Bool) (xs : List ℕ) → ((x : ℕ) → IsIn x xs → P x ≡ true) → count_by P xs ≡ length xs
 count_all P [] sure = refl
@@ -109,3 +111,29 @@ module _ (t : TypeTable) (sight : Sight) (start k : ℕ) (items teams sizes : Li
     operations = λ p u. omega (arith, known (get_or items p 0) (times_of_place items p u), e);
     looks = λ p u. refl;
   }
+
+  -- where all are in one team, the operations are connected
+  pub none_split : ¬ AreParted (length items) (λ p. slice_index teams p) → ¬ IsSplit t sight start items
+  none_split not_parted split =
+      let S = meeting_of start items sight in
+      let x = place_in split.0 items split.2 in
+      let y = place_in split.1 items split.3 in
+      elim (same_or (slice_index teams x.0) (slice_index teams y.0)) [
+        | inl e ↦ (
+            let linked = connected_down t S (length items) sight (λ p l. refl) items (same_own start items sight) x.0 y.0 ((finest x.0 y.0 x.1 y.1).0 e) in
+            split.4 (subst (λ (f : ℕ). AreConnected t sight start items f split.1) x.2 (subst (AreConnected t sight start items (get_or items x.0 0)) y.2 linked))
+            )
+        | inr ne ↦ not_parted (x.0, y.0, x.1, y.1, ne)
+      ]
+
+-- a meeting of three processes or more with two teams has a stock that is split
+pub parted_split : (t : TypeTable) (sight : Sight) (n : ℕ) (items : List ℕ) (M : Meeting) (team : ℕ → ℕ) → 3 ≤ n → IsMeetingOf t sight n M → HaveSame items (operations_of M n) → IsFinestOf t M n team
+    → AreParted n team → IsSplit t sight M.start items
+parted_split t sight n items M team many is same finest parted = (
+  M.operation parted.0,
+  M.operation parted.1,
+  in_stock n items M same parted.0 parted.2,
+  in_stock n items M same parted.1 parted.3,
+  λ c. parted.4 ((finest parted.0 parted.1 parted.2 parted.3).1
+      ((connected_by_operations t M n sight is.looks items same (twins_of_three t M n many) parted.0 parted.1 parted.2 parted.3).1 c)),
+)

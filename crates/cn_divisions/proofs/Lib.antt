@@ -7,4 +7,5 @@ pub mod Looks
 pub mod Merging
 pub mod ProcessTeams
 pub mod SameSizes
+pub mod Splitting
 pub mod Twins

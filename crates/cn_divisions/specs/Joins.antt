@@ -1,10 +1,10 @@
 -- Operations of a stock that are joined: what comes of the one first and of the other first cannot
 -- be told apart.
-use Rattle.std.specs.Prelude.{ℕ, ◌≡◌, ◌≢◌, ◌↔◌, ◌<◌, List, length, slice_index}
+use Rattle.std.specs.Prelude.{ℕ, ◌≡◌, ◌≢◌, ◌↔◌, ◌<◌, ◌≤◌, List, length, slice_index}
 use Rattle.cn_table.specs.TypeTable.{TypeTable}
 use Rattle.cn_table.specs.declared.limits.TheConstants.{MOST_OPERATIONS}
 use Rattle.cn_meetings.specs.Meeting.{Sight, sees}
-use Rattle.cn_stocks.specs.Words.{Shows}
+use Rattle.cn_stocks.specs.Words.{Shows, times}
 
 -- some word within the stock that begins with f has o at a place where o gets the response, and
 -- leaves a state of which the sight sees this
@@ -27,6 +27,11 @@ pub data AreConnected (t : TypeTable) (sight : Sight) (start : ℕ) (stock : Lis
   Itself : (f : ℕ) → AreConnected t sight start stock f f
   ByWayOf : (f g h : ℕ) → AreJoined t sight start stock f g → AreConnected t sight start stock g h
       → AreConnected t sight start stock f h
+
+-- some operations of the stock are in different components
+abbrev pub IsSplit : TypeTable → Sight → ℕ → List ℕ → Type 0
+IsSplit t sight start stock = (f : ℕ) × (g : ℕ) × (1 ≤ times f stock) × (1 ≤ times g stock)
+    × ¬ AreConnected t sight start stock f g
 
 -- the components of these operations are the teams
 abbrev pub AreComponents : TypeTable → Sight → ℕ → List ℕ → ℕ → List ℕ → Type 0

@@ -1,8 +1,9 @@
 //! The finest division of the processes that do the operations of a stock.
-ghost use Rattle.std.specs.Prelude.{◌≡◌, ◌<◌, ◌≤◌, ◌↔◌, length, IfOk, IfSome, IsTrue};
+ghost use Rattle.std.specs.Prelude.{◌≡◌, ◌<◌, ◌≤◌, ◌↔◌, length, IfOk, IfSome, IsSome, IsTrue};
 ghost use Rattle.cn_choice.specs.declared.limits.TheConstants.{MOST_PROCESSES};
 ghost use Rattle.cn_divisions.specs.Divisions.{IsDivision};
 ghost use Rattle.cn_divisions.specs.Found.{HasDivisionOf, HaveSizes, IsAdded};
+ghost use Rattle.cn_divisions.specs.Joins.{IsSplit};
 ghost use Rattle.cn_divisions.specs.Levels.{IsSetting};
 ghost use Rattle.cn_divisions.specs.Sights.{sight_of};
 
@@ -48,6 +49,8 @@ pub(crate) fn finest(setting: &Setting<'_>, sight: Sight, start: u8) -> Option<D
         (length setting.now.stock.now.operations.items)) }
     ensures all { HasDivisionOf setting.now.table.now (sight_of sight) start
         setting.now.stock.now.operations.items result }
+    ensures split { IsSplit setting.now.table.now (sight_of sight) start
+        setting.now.stock.now.operations.items → IsSome result }
 {
     let teams = process_teams(setting, sight, start);
     let sizes = sizes(teams.as_slice());

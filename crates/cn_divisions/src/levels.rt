@@ -1,9 +1,36 @@
 //! What is known of all stocks of one number of operations.
 ghost use Rattle.std.specs.Prelude.{◌≡◌, ◌<◌, ◌≤◌, ℕ};
 
+use crate::sights::Sight;
 use crate::word_sets::{Ends, Shown};
+use cn_outcomes::bits::union;
 use cn_stocks::stocks::{Stock, Stocks};
 use cn_table::Table;
+
+/// For each stock the states from which some of its operations are in different teams. Further
+/// states do no harm: they are asked in vain.
+#[derive(Drop)]
+pub(crate) struct Starts {
+    /// Where each process reads the state.
+    pub state: Vec<u16>,
+    /// Where no process looks at it.
+    pub nothing: Vec<u16>,
+}
+
+impl Starts {
+    ghost use Rattle.std.specs.Prelude.{◌≡◌};
+    ghost use Rattle.cn_divisions.specs.Levels.{starts_by};
+
+    /// The states by this sight.
+    fn by(&self, sight: Sight) -> &[u16]
+        ensures { result.now ≡ starts_by sight self.now }
+    {
+        match sight {
+            Sight::State => self.state.as_slice(),
+            Sight::Nothing => self.nothing.as_slice(),
+        }
+    }
+}
 
 /// All stocks of one number of operations, and for each what words within it lead to.
 #[derive(Drop)]
@@ -11,6 +38,7 @@ pub(crate) struct Level {
     pub stocks: Stocks,
     pub ends: Vec<Ends>,
     pub shown: Vec<Shown>,
+    pub starts: Starts,
 }
 
 /// A table, a stock, and the stocks of one operation less.
@@ -23,7 +51,7 @@ pub(crate) struct Setting<'s> {
 
 impl<'s> Setting<'s> {
     ghost use Rattle.std.specs.Prelude.{◌≡◌, ◌<◌, ℕ, length, MatchOption};
-    ghost use Rattle.cn_divisions.specs.Levels.{AreLessEnds, AreLessShown, IsSetting};
+    ghost use Rattle.cn_divisions.specs.Levels.{AreLessEnds, AreLessShown, HasLessStarts, IsSetting};
     ghost use Rattle.cn_stocks.specs.Words.{times};
 
     /// The states in which words within the stock without one of the operation end, where the stock
@@ -58,5 +86,22 @@ impl<'s> Setting<'s> {
             Some(place) => Some(&level.shown[place as usize]),
             None => None,
         }
+    }
+
+    /// The states from which the stock is split with one operation less. Where it has three
+    /// operations or more it is split from no other one.
+    pub fn less_starts(&self, sight: Sight) -> u16
+        requires { IsSetting self.now }
+        ensures { HasLessStarts self.now sight result }
+    {
+        let _operations = self.table.operations();
+        let starts = self.level.starts.by(sight);
+        let mut set = 0;
+        for operation in 0..self.table.operations() {
+            if let Some(place) = self.stock.less[operation as usize] {
+                set = union(set, starts[place as usize]);
+            }
+        }
+        set
     }
 }

@@ -1,5 +1,5 @@
 //! The search by the number of processes.
-ghost use Rattle.std.specs.Prelude.{◌≡◌, ◌<◌, ◌≤◌, ◌+◌, ◌-◌, ℕ, [], All, length, IfOk};
+ghost use Rattle.std.specs.Prelude.{◌≡◌, ◌<◌, ◌≤◌, ◌+◌, ◌-◌, ℕ, [], All, length, IfOk, IsBitSet, IsTrue};
 ghost use Rattle.cn_choice.specs.declared.limits.TheConstants.{MOST_PROCESSES};
 ghost use Rattle.cn_meetings.specs.Meeting.{Meeting};
 ghost use Rattle.cn_stocks.specs.Each.{EachAt};
@@ -7,14 +7,15 @@ ghost use Rattle.cn_stocks.specs.Stocks.{SomeAll};
 ghost use Rattle.cn_stocks.specs.Words.{HaveSame};
 ghost use Rattle.cn_divisions.specs.Divisions.{AreAllSizes, AreDivisions, DifferInSizes, HaveSizesOf, IsDivision, IsMeetingOf, operations_of};
 ghost use Rattle.cn_divisions.specs.Found.{IsExtended};
-ghost use Rattle.cn_divisions.specs.Levels.{AreNext, IsLevel, IsSetting};
+ghost use Rattle.cn_divisions.specs.Levels.{AreNext, AreStarts, HasStarts, IsSetting};
 ghost use Rattle.cn_divisions.specs.Sights.{sight_of};
 
 use crate::divisions::{Division, add, finest};
-use crate::levels::{Level, Setting};
+use crate::levels::{Level, Setting, Starts};
 use crate::sights::Sight;
 use crate::word_sets::{all_ends, all_shown};
 use cn_choice::MOST_PROCESSES;
+use cn_outcomes::bits::{contains, with};
 use cn_stocks::stocks::{Stocks, no_operation};
 use cn_table::Table;
 use std::alloc::{AllocError, Global};
@@ -28,12 +29,23 @@ pub struct Divisions {
     pub nothing: Vec<Division>,
 }
 
+/// Whether the stock may be split from the state, by the states from which it is so with one
+/// operation less.
+fn may_split(setting: &Setting<'_>, less: u16, start: u8) -> bool
+    requires { start < 16 }
+    ensures { ¬ IsTrue result → (3 ≤ length setting.now.stock.now.operations.items)
+        × ¬ IsBitSet less start }
+{
+    setting.stock.operations.len() < 3 || contains(less, start)
+}
+
 /// Adds the divisions of the processes that do the operations of the stock, from each start state.
+/// Answers the states from which there is one.
 fn add_stock(
     setting: &Setting<'_>,
     sight: Sight,
     found: &mut Vec<Division>,
-) -> Result<(), AllocError>
+) -> Result<u16, AllocError>
     requires setting { IsSetting setting.now }
     requires few { length setting.now.stock.now.operations.items ≤ MOST_PROCESSES }
     requires many { 2 ≤ length setting.now.stock.now.operations.items }
@@ -51,13 +63,29 @@ fn add_stock(
         (operations_of M (length setting.now.stock.now.operations.items))
         → HaveSizesOf setting.now.table.now (length setting.now.stock.now.operations.items) M
         found.new.items) }
+    ensures starts { IfOk result (HasStarts setting.now.table.now sight
+        setting.now.stock.now.operations.items) }
 {
+    let _states = setting.table.states();
+    let less = setting.less_starts(sight);
+    let mut starts = 0;
     for start in 0..setting.table.states() {
-        if let Some(division) = finest(setting, sight, start) {
-            add(found, division)?;
+        if may_split(setting, less, start) {
+            if let Some(division) = finest(setting, sight, start) {
+                starts = with(starts, start);
+                add(found, division)?;
+            }
         }
     }
-    Ok(())
+    Ok(starts)
+}
+
+/// What is found of all stocks by one sight.
+#[derive(Drop)]
+struct Found {
+    divisions: Vec<Division>,
+    /// For each stock the states from which there is a division.
+    starts: Vec<u16>,
 }
 
 /// The divisions of n processes, whose operations are one of these stocks.
@@ -68,15 +96,19 @@ fn divisions_of(
     stocks: &Stocks,
     sight: Sight,
     n: u8,
-) -> Result<Vec<Division>, AllocError>
+) -> Result<Found, AllocError>
     requires next { AreNext table.now level.now stocks.now.list.items }
     requires stocks { SomeAll (length table.now.operations) n stocks.now }
     requires few { n ≤ MOST_PROCESSES }
     requires many { 2 ≤ n }
-    ensures { IfOk result (λ found. AreAllSizes table.now (sight_of sight) n found.items) }
+    ensures all { IfOk result (λ found. AreAllSizes table.now (sight_of sight) n
+        found.divisions.items) }
+    ensures starts { IfOk result (λ found. AreStarts table.now sight stocks.now.list.items
+        (length stocks.now.list.items) found.starts.items) }
 {
     let _n = n;
-    let mut found = Vec::new(alloc);
+    let mut divisions = Vec::new(alloc);
+    let mut starts = Vec::with_capacity(alloc, stocks.list.len())?;
     let list = stocks.list.as_slice();
     for place in 0..list.len() {
         let setting = Setting {
@@ -84,9 +116,10 @@ fn divisions_of(
             level,
             stock: &list[place],
         };
-        add_stock(&setting, sight, &mut found)?;
+        let here = add_stock(&setting, sight, &mut divisions)?;
+        starts.push(here)?;
     }
-    Ok(found)
+    Ok(Found { divisions, starts })
 }
 
 /// How far a search has come: all stocks of one number of operations, over those of one less.
@@ -101,6 +134,8 @@ fn no_level(alloc: Global) -> Level
     ensures stocks { result.stocks.list.items ≡ [] }
     ensures ends { result.ends.items ≡ [] }
     ensures shown { result.shown.items ≡ [] }
+    ensures state { result.starts.state.items ≡ [] }
+    ensures nothing { result.starts.nothing.items ≡ [] }
 {
     Level {
         stocks: Stocks {
@@ -109,13 +144,30 @@ fn no_level(alloc: Global) -> Level
         },
         ends: Vec::new(alloc),
         shown: Vec::new(alloc),
+        starts: Starts {
+            state: Vec::new(alloc),
+            nothing: Vec::new(alloc),
+        },
     }
+}
+
+/// All states, so many times.
+fn all_states(alloc: Global, count: usize) -> Result<Vec<u16>, AllocError>
+    ensures { IfOk result (λ sets. EachAt (λ i set. (q : ℕ) → q < 16 → IsBitSet set q) count
+        sets.items) }
+{
+    let mut sets = Vec::with_capacity(alloc, count)?;
+    for _place in 0..count {
+        sets.push(u16::MAX)?;
+    }
+    Ok(sets)
 }
 
 impl Search {
     ghost use Rattle.std.specs.Prelude.{◌<◌, ◌≤◌, ◌+◌, ℕ, IfOk};
     ghost use Rattle.cn_choice.specs.declared.limits.TheConstants.{MOST_PROCESSES};
     ghost use Rattle.cn_divisions.specs.Divisions.{AreDivisions};
+    ghost use Rattle.cn_divisions.specs.Levels.{AreAllStarts};
     ghost use Rattle.cn_divisions.specs.Searches.{IsSearch};
 
     /// The search at the stock of no operation.
@@ -127,9 +179,16 @@ impl Search {
         Ok(Search { below, stocks })
     }
 
-    /// The search at the stocks of one operation more; these have n.
-    fn next(self, alloc: Global, table: &Table, n: u8) -> Result<Search, AllocError>
+    /// The search at the stocks of one operation more; these have n, and these start states.
+    fn next(
+        self,
+        alloc: Global,
+        table: &Table,
+        n: u8,
+        starts: Starts,
+    ) -> Result<Search, AllocError>
         requires search { IsSearch table.now n self }
+        requires starts { AreAllStarts table.now self.stocks.list.items starts }
         requires short { n < MOST_PROCESSES }
         ensures { IfOk result (IsSearch table.now (n + 1)) }
     {
@@ -140,22 +199,44 @@ impl Search {
             stocks: self.stocks,
             ends,
             shown,
+            starts,
         };
         let stocks = below.stocks.longer(alloc, table.operations(), n)?;
         Ok(Search { below, stocks })
     }
 
-    /// The divisions of as many processes as the stocks have operations.
-    fn here(&self, alloc: Global, table: &Table, n: u8) -> Result<Divisions, AllocError>
+    /// All states, for each of the stocks.
+    fn any_starts(&self, alloc: Global, table: &Table) -> Result<Starts, AllocError>
+        ensures { IfOk result (AreAllStarts table.now self.now.stocks.list.items) }
+    {
+        let _states = table.states();
+        let state = all_states(alloc, self.stocks.list.len())?;
+        let nothing = all_states(alloc, self.stocks.list.len())?;
+        Ok(Starts { state, nothing })
+    }
+
+    /// The divisions of as many processes as the stocks have operations, and the states from which
+    /// there are some.
+    fn here(&self, alloc: Global, table: &Table, n: u8) -> Result<(Divisions, Starts), AllocError>
         requires search { IsSearch table.now n self.now }
         requires few { n ≤ MOST_PROCESSES }
         requires many { 2 ≤ n }
-        ensures { IfOk result (AreDivisions table.now n) }
+        ensures divisions { IfOk result (λ here. AreDivisions table.now n here.0) }
+        ensures starts { IfOk result (λ here. AreAllStarts table.now self.now.stocks.list.items
+            here.1) }
     {
         let (below, stocks) = (&self.below, &self.stocks);
         let state = divisions_of(alloc, table, below, stocks, Sight::State, n)?;
         let nothing = divisions_of(alloc, table, below, stocks, Sight::Nothing, n)?;
-        Ok(Divisions { state, nothing })
+        let divisions = Divisions {
+            state: state.divisions,
+            nothing: nothing.divisions,
+        };
+        let starts = Starts {
+            state: state.starts,
+            nothing: nothing.starts,
+        };
+        Ok((divisions, starts))
     }
 }
 
@@ -173,12 +254,15 @@ pub fn find_divisions(alloc: Global, table: &Table, most: u8) -> Result<Vec<Divi
         all.items) }
 {
     let mut search = Search::new(alloc, table)?;
-    search = search.next(alloc, table, 0)?;
+    let mut starts = search.any_starts(alloc, table)?;
+    search = search.next(alloc, table, 0, starts)?;
+    starts = search.any_starts(alloc, table)?;
     let mut all = Vec::new(alloc);
     for n in 1..most {
-        search = search.next(alloc, table, n)?;
+        search = search.next(alloc, table, n, starts)?;
         let here = search.here(alloc, table, n + 1)?;
-        all.push(here)?;
+        all.push(here.0)?;
+        starts = here.1;
     }
     Ok(all)
 }

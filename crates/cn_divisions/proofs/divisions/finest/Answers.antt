@@ -3,7 +3,7 @@ use Rattle.cn_divisions.specs.Counts.{AreTeams}
 use Rattle.cn_divisions.specs.Divisions.{AreParted, IsFinestOf, IsMeetingOf, meeting_of}
 use Rattle.cn_divisions.specs.Sights.{sight_of}
 use Rattle.cn_divisions.specs.Sizes.{AreSizes}
-use Rattle.cn_divisions.proofs.Finding.{is_meeting, none_parted, sizes_move}
+use Rattle.cn_divisions.proofs.Finding.{is_meeting, none_parted, none_split, sizes_move}
 use Rattle.cn_divisions.proofs.divisions.finest.Goals as goal
 
 pub sizes-sizes-requires-clause-teams : goal.sizes-sizes-requires-clause-teams
@@ -21,6 +21,19 @@ returns-then-not-is_parted-clause-all c M team is begins same its parted =
     (subst (λ (n : ℕ). AreParted n (λ p. slice_index c.as_slice-2.result.now p)) (sym e) (subst (λ (xs : List ℕ). AreParted (length items) (λ p. slice_index xs p)) (sym value) h))) ∙ c.if-not-is_parted.true) in
     absurd (none_parted s.table.now (sight_of c.args.sight) c.args.start (length s.table.now.operations) items teams c.sizes-sizes.result.items c.requires.setting.stock_is.known c.requires.many
     c.process_teams-teams.ensures.long c.process_teams-teams.ensures.finest are not_parted M team is begins same its parted)
+
+pub returns-then-not-is_parted-clause-split : goal.returns-then-not-is_parted-clause-split
+returns-then-not-is_parted-clause-split c split =
+    let s = c.args.setting.now in
+    let items = s.stock.now.operations.items in
+    let teams = c.process_teams-teams.result.items in
+    let value = c.as_slice-2.ensures.value in
+    let are = subst (λ (xs : List ℕ). AreSizes xs c.sizes-sizes.result.items) c.as_slice.ensures.value c.sizes-sizes.ensures in
+    let e : length c.as_slice-2.result.now ≡ length items = ap length value ∙ c.process_teams-teams.ensures.long in
+    let not_parted : ¬ AreParted (length items) (λ p. slice_index teams p) = λ h. true≢false (sym (c.is_parted.ensures.1
+    (subst (λ (n : ℕ). AreParted n (λ p. slice_index c.as_slice-2.result.now p)) (sym e) (subst (λ (xs : List ℕ). AreParted (length items) (λ p. slice_index xs p)) (sym value) h))) ∙ c.if-not-is_parted.true) in
+    absurd (none_split s.table.now (sight_of c.args.sight) c.args.start (length s.table.now.operations) items teams c.sizes-sizes.result.items c.requires.setting.stock_is.known c.requires.many
+    c.process_teams-teams.ensures.long c.process_teams-teams.ensures.finest are not_parted split)
 
 pub returns-clause-is : goal.returns-clause-is
 returns-clause-is c =

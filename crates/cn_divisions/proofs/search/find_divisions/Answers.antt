@@ -14,6 +14,7 @@ loop-n-preserved c =
     let fit : ℕ → Divisions → Type 0 = λ i d. AreDivisions t (i + 2) d in
     record {
       search_is = c.in_ok-search-3.ensures;
+      starts_are = c.in_ok-here.ensures.starts;
       each = subst (λ (k : ℕ). EachAt fit k c.push.new.self.items) count
-          (each_push fit c.loop-n.all.items c.push.new.self.items c.in_ok-here.here (n - 1) c.in_ok-push.ensures.items c.loop-n.invariant.each (subst (λ (k : ℕ). AreDivisions t k c.in_ok-here.here) at c.in_ok-here.ensures));
+          (each_push fit c.loop-n.all.items c.push.new.self.items c.in_ok-here.here.0 (n - 1) c.in_ok-push.ensures.items c.loop-n.invariant.each (subst (λ (k : ℕ). AreDivisions t k c.in_ok-here.here.0) at c.in_ok-here.ensures.divisions));
     }

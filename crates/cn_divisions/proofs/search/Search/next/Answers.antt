@@ -24,6 +24,7 @@ returns c =
       level = record {
         ends = subst (λ (stocks : List Stock). AreAllEnds t stocks (length stocks) c.in_ok-ends.ends.items) c.as_slice-list.ensures.value c.in_ok-ends.ensures;
         shown = subst (λ (stocks : List Stock). AreAllShown t stocks (length stocks) c.in_ok-shown.shown.items) c.as_slice-list.ensures.value c.in_ok-shown.ensures;
+        starts = c.requires.starts;
       };
       all = subst (λ (k : ℕ). AreAll k (c.args.n + 1) list c.in_ok-stocks.stocks) c.operations.ensures.number c.in_ok-stocks.ensures;
     }
