@@ -7,7 +7,7 @@
 //! processes all sizes that such divisions of a type have, with an example of each: where processes
 //! read the state behind their operation, and where they do not look.
 //!
-//! It goes over stocks, lists of operations ([`cn_stocks`]): from three processes on those with one
+//! It goes over stocks, lists of operations (`cn_stocks`): from three processes on those with one
 //! operation are in one team ([`laws::divisions_are_of_operations`]).
 //!
 //! ```text
