@@ -1,7 +1,8 @@
 -- Signs, as they are told.
-use Rattle.std.specs.Prelude.{◌≢◌, ℕ, All, Contains}
-use Rattle.cn_table.specs.TypeTable.{TypeTable, transition}
+use Rattle.std.specs.Prelude.{◌≢◌, ◌↔◌, ℕ, AllPairs, Contains, IsBitSet}
+use Rattle.cn_table.specs.TypeTable.{TypeTable}
 use Rattle.cn_choice.specs.Renumbering.{other}
+use Rattle.cn_signs.specs.SignChecks.{Answers}
 use Rattle.cn_signs.specs.SignChoices.{HasSigns}
 use Rattle.cn_signs.specs.StateSets.{unsigned}
 use Rattle.cn_signs.specs.declared.sign_choice.SignChoice.{SignChoice}
@@ -9,13 +10,20 @@ use Rattle.cn_unread.specs.Signs.{StatesOf}
 use Rattle.cn_unread_reasons.specs.declared.sight.Answer.{Answer}
 use Rattle.cn_unread_reasons.specs.declared.signs.SignWitness.{SignWitness}
 
--- a sign: the response to a further operation never comes where the other team was first
+-- the operation gets the response in some state of the first set, and in none of the second
+abbrev pub ComesInOne : TypeTable → ℕ → ℕ → Answer → Type 0
+ComesInOne t own others a = Answers t a.operation.0 (IsBitSet own) a.response.0
+    × ¬ Answers t a.operation.0 (IsBitSet others) a.response.0
+
+-- a sign: the response to a further operation comes where the team was first, and never where the
+-- other one was
 pub record IsSignOf (t : TypeTable) (c : SignChoice) (a : Answer) : Type 0 where
   pub operation : Contains c.further.items a.operation.0
-  pub never : (q : ℕ) → StatesOf t (unsigned c) (other c.side) q
-      → (transition t a.operation.0 q).0 ≢ a.response.0
+  pub comes : Answers t a.operation.0 (StatesOf t (unsigned c) c.side) a.response.0
+  pub never : ¬ Answers t a.operation.0 (StatesOf t (unsigned c) (other c.side)) a.response.0
 
--- a choice that has signs, and such responses
+-- a choice that has signs, and all of them, each once
 pub record IsSignWitness (t : TypeTable) (s : SignWitness) : Type 0 where
   pub choice : HasSigns t s.choice
-  pub signs : All (IsSignOf t s.choice) s.signs.items
+  pub signs : (a : Answer) → Contains s.signs.items a ↔ IsSignOf t s.choice a
+  pub once : AllPairs (λ x y. x ≢ y) s.signs.items
