@@ -1,8 +1,9 @@
 -- Signs as they are told, one response or one operation more at a time.
 use Rattle.std.proofs.Common.{◌≡◌, ℕ, ◌+◌, ◌<◌, ◌≤◌, ◌⊎◌, ◌↔◌, inl, inr, List, [], ◌∷◌, ◌++◌, length, get_or, Contains, arith, refl, subst, sym}
-use Rattle.std.specs.Prelude.{IsBitSet}
+use Rattle.std.specs.Prelude.{◌≢◌, AllPairs, IsBitSet}
 use Rattle.std.proofs.lemmas.Bool.{cases_lt}
-use Rattle.std.proofs.lemmas.List.Elements.{All-from_recursion, All-get_or, Contains-append_left, Contains-push, Contains-push_cases}
+use Rattle.std.proofs.lemmas.List.Quantifiers.{all_pairs_push}
+use Rattle.std.proofs.lemmas.List.Elements.{Contains-get_or, All-from_recursion, All-get_or, Contains-append_left, Contains-push, Contains-push_cases}
 use Rattle.cn_table.specs.TypeTable.{IsRow, IsTypeTable, TypeTable, no_row, transition}
 use Rattle.cn_table.specs.declared.elements.Operation.{Operation}
 use Rattle.cn_choice.specs.Renumbering.{other}
@@ -10,8 +11,28 @@ use Rattle.cn_outcomes.specs.Subsets.{Below}
 use Rattle.cn_signs.specs.StateSets.{AreStatesFor, InTeam}
 use Rattle.cn_signs.specs.declared.sign_choice.SignChoice.{SignChoice}
 use Rattle.cn_signs.specs.declared.states.SignStates.{SignStates}
-use Rattle.cn_unread_reasons.specs.SignWitnesses.{ComesInOne, IsSignOf}
+use Rattle.cn_unread_reasons.specs.SignWitnesses.{ComesFirst, ComesInOne, IsBefore, IsSignOf}
 use Rattle.cn_unread_reasons.specs.declared.sight.Answer.{Answer}
+
+-- nothing is before itself, so lists in order have each once
+pub once_in_order : (further : List ℕ) (list : List Answer) → AllPairs (IsBefore further) list → AllPairs (λ x y. x ≢ y) list
+once_in_order further list order i j d less within e = elim (subst (IsBefore further (get_or list i d)) (sym e) (order i j d less within)) [
+  | inl first ↦ first.2 first.1
+  | inr lower ↦ absurd (omega (arith, lower.1))
+]
+
+-- a list with one more
+pub pushed : (list : List Answer) (x : Answer) (a : Answer) → Contains (list ++ x ∷ []) a ↔ (Contains list a ⊎ (a ≡ x))
+pushed list x a = (
+  λ h. elim (Contains-push_cases list x a h) [
+    | inl old ↦ inl old
+    | inr e ↦ inr (sym e)
+  ],
+  λ h. elim h [
+    | inl old ↦ Contains-append_left list (x ∷ []) a old
+    | inr e ↦ subst (Contains (list ++ x ∷ [])) (sym e) (Contains-push list x)
+  ],
+)
 
 -- each response is one of the table
 response_known : (t : TypeTable) → IsTypeTable t → (o q : ℕ) → o < length t.operations → q < length t.states → (transition t o q).0 < length t.responses
@@ -59,6 +80,15 @@ module _ (t : TypeTable) (own others : ℕ) where
       ]),
     )
 
+    -- the next response stands behind all so far
+    pub order_more : (further : List ℕ) (old : List Answer) → HasBelow o before k old → ((a : Answer) → Contains before a → ComesFirst further a.operation.0 o.0)
+        → AllPairs (IsBefore further) old → AllPairs (IsBefore further) (old ++ record { operation = o; response = record { 0 = k } } ∷ [])
+    order_more further old so_far first order = all_pairs_push (IsBefore further) old (record { operation = o; response = record { 0 = k } }) order (λ i d within.
+        elim ((so_far (get_or old i d)).0 (Contains-get_or old i d within)) [
+          | inl there ↦ inl (first (get_or old i d) there)
+          | inr f ↦ inr (f.0, f.1)
+        ])
+
     pub response_out : (old : List Answer) → ¬ ComesInOne t own others (record { operation = o; response = record { 0 = k } }) → HasBelow o before k old → HasBelow o before (k + 1) old
     response_out old not so_far a = (
       λ h. wider a ((so_far a).0 h),
@@ -84,6 +114,15 @@ module _ (t : TypeTable) (own others : ℕ) where
             inr (f.0, omega (arith, in_range, last), f.1))
       ]),
     )
+
+  pub operation_again : (further : List ℕ) (o : ℕ) (list : List Answer) → Contains further o → HasFor further list → HasFor (further ++ o ∷ []) list
+  operation_again further o list had so_far a = (
+    λ h. let f = (so_far a).0 h in (Contains-append_left further (o ∷ []) a.operation.0 f.0, f.1),
+    λ f. (so_far a).1 (elim (Contains-push_cases further o a.operation.0 f.0) [
+      | inl old ↦ (old, f.1)
+      | inr e ↦ (subst (Contains further) e had, f.1)
+    ]),
+  )
 
   pub operation_more : (further : List ℕ) (o : ℕ) (old new : List Answer)
       → ((a : Answer) → Contains new a ↔ (Contains old a ⊎ ((a.operation ≡ record { 0 = o }) × ComesInOne t own others a)))

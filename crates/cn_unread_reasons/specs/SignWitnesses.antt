@@ -1,5 +1,5 @@
 -- Signs, as they are told.
-use Rattle.std.specs.Prelude.{◌≢◌, ◌↔◌, ℕ, AllPairs, Contains, IsBitSet}
+use Rattle.std.specs.Prelude.{◌≡◌, ◌≢◌, ◌<◌, ◌⊎◌, ◌↔◌, ℕ, List, AllPairs, Contains, IsBitSet, take}
 use Rattle.cn_table.specs.TypeTable.{TypeTable}
 use Rattle.cn_choice.specs.Renumbering.{other}
 use Rattle.cn_signs.specs.SignChecks.{Answers}
@@ -22,8 +22,19 @@ pub record IsSignOf (t : TypeTable) (c : SignChoice) (a : Answer) : Type 0 where
   pub comes : Answers t a.operation.0 (StatesOf t (unsigned c) c.side) a.response.0
   pub never : ¬ Answers t a.operation.0 (StatesOf t (unsigned c) (other c.side)) a.response.0
 
--- a choice that has signs, and all of them, each once
+-- the first of the numbers has a place in the list before all places of the second
+abbrev pub ComesFirst : List ℕ → ℕ → ℕ → Type 0
+ComesFirst list o p = (k : ℕ) × Contains (take k list) o × ¬ Contains (take k list) p
+
+-- the order of answers: by the first place of the operation in the list, and then by the number of
+-- the response
+abbrev pub IsBefore : List ℕ → Answer → Answer → Type 0
+IsBefore list x y = ComesFirst list x.operation.0 y.operation.0
+    ⊎ ((x.operation ≡ y.operation) × (x.response.0 < y.response.0))
+
+-- a choice that has signs, and all of them in order, each once
 pub record IsSignWitness (t : TypeTable) (s : SignWitness) : Type 0 where
   pub choice : HasSigns t s.choice
   pub signs : (a : Answer) → Contains s.signs.items a ↔ IsSignOf t s.choice a
+  pub order : AllPairs (IsBefore s.choice.further.items) s.signs.items
   pub once : AllPairs (λ x y. x ≢ y) s.signs.items

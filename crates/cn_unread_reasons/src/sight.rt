@@ -77,7 +77,7 @@ fn told_sight(table: &Table, looks: &[u8], sight: Sight) -> UnreadSight
 }
 
 /// Whether the two are the same.
-pub(crate) fn is_answer(one: Answer, other: Answer) -> bool
+fn is_answer(one: Answer, other: Answer) -> bool
     ensures { IsTrue result ↔ (one ≡ other) }
 {
     one.operation.0 == other.operation.0 && one.response.0 == other.response.0

@@ -1,14 +1,14 @@
 //! Signs, which tell the team that was first to any number of processes.
-ghost use Rattle.std.specs.Prelude.{◌≡◌, ◌≢◌, ◌<◌, ◌⊎◌, ◌↔◌, All, AllPairs, Contains, IfOk, IsBitSet, IsTrue, OnOk, length};
+ghost use Rattle.std.specs.Prelude.{◌≡◌, ◌<◌, ◌⊎◌, ◌↔◌, ℕ, All, AllPairs, Contains, IfOk, IsBitSet, IsTrue, List, OnOk, length, slice_index, take};
 ghost use Rattle.cn_choice.specs.Renumbering.{other};
 ghost use Rattle.cn_outcomes.specs.Subsets.{Below};
 ghost use Rattle.cn_signs.specs.SignChecks.{Answers};
 ghost use Rattle.cn_signs.specs.SignChoices.{HasSigns, IsKnownChoice};
 ghost use Rattle.cn_unread_reasons.specs.Known.{IsKnownAnswer, IsKnownSigns};
-ghost use Rattle.cn_unread_reasons.specs.SignWitnesses.{ComesInOne, IsSignOf, IsSignWitness};
+ghost use Rattle.cn_unread_reasons.specs.SignWitnesses.{ComesFirst, ComesInOne, IsBefore, IsSignOf, IsSignWitness};
 ghost use Rattle.cn_unread_reasons.specs.declared.sight.Answer.{Answer as AnswerOf};
 
-use crate::sight::{Answer, is_answer};
+use crate::sight::Answer;
 use cn_choice::Team;
 use cn_outcomes::Bits;
 use cn_signs::{SignChoice, SignStates};
@@ -53,21 +53,7 @@ fn comes_in_one(table: &Table, own: Bits, others: Bits, answer: Answer) -> bool
     comes_in(table, own, answer) && !comes_in(table, others, answer)
 }
 
-/// Appends it, unless the list has it.
-fn push_new(answers: &mut Vec<Answer>, answer: Answer) -> Result<(), AllocError>
-    ensures same { OnOk result ((a : AnswerOf)
-        → Contains answers.new.items a ↔ (Contains answers.old.items a ⊎ (a ≡ answer))) }
-    ensures once { OnOk result (AllPairs (λ x y. x ≢ y) answers.old.items
-        → AllPairs (λ x y. x ≢ y) answers.new.items) }
-{
-    if !answers.iter().any(|one| is_answer(*one, answer)) {
-        answers.push(answer)?;
-    }
-    Ok(())
-}
-
-/// Appends the responses to the operation that come in the first set, and not in the second, and
-/// that the list has not.
+/// Appends the responses to the operation that come in the first set, and not in the second.
 fn push_signs(
     signs: &mut Vec<Answer>,
     table: &Table,
@@ -81,8 +67,10 @@ fn push_signs(
     ensures same { OnOk result ((a : AnswerOf)
         → Contains signs.new.items a ↔ (Contains signs.old.items a
         ⊎ ((a.operation ≡ operation) × ComesInOne table.now own others a))) }
-    ensures once { OnOk result (AllPairs (λ x y. x ≢ y) signs.old.items
-        → AllPairs (λ x y. x ≢ y) signs.new.items) }
+    ensures order { (further : List ℕ) → AllPairs (IsBefore further) signs.old.items
+        → ((a : AnswerOf) → Contains signs.old.items a
+        → ComesFirst further a.operation.0 operation.0)
+        → OnOk result (AllPairs (IsBefore further) signs.new.items) }
     ensures known { All (IsKnownAnswer table.now) signs.old.items
         → OnOk result (All (IsKnownAnswer table.now) signs.new.items) }
 {
@@ -94,13 +82,23 @@ fn push_signs(
             response,
         };
         if comes_in_one(table, own, others, answer) {
-            push_new(signs, answer)?;
+            signs.push(answer)?;
         }
     }
     Ok(())
 }
 
-/// The responses to these operations that come in the first set, and not in the second, each once.
+/// Whether the operation at the place of the list is one of those before it.
+fn is_repeated(operations: &[u8], place: usize) -> bool
+    requires { place < length operations.now }
+    ensures { IsTrue result
+        ↔ Contains (take place operations.now) (slice_index operations.now place) }
+{
+    let number = operations[place];
+    operations[..place].iter().any(|one| *one == number)
+}
+
+/// The responses to these operations that come in the first set, and not in the second, in order.
 fn signs_of(
     alloc: Global,
     table: &Table,
@@ -113,12 +111,14 @@ fn signs_of(
     requires others { Below (length table.now.states) others }
     ensures same { IfOk result (λ signs. (a : AnswerOf) → Contains signs.items a
         ↔ (Contains further.now a.operation.0 × ComesInOne table.now own others a)) }
-    ensures once { IfOk result (λ signs. AllPairs (λ x y. x ≢ y) signs.items) }
+    ensures order { IfOk result (λ signs. AllPairs (IsBefore further.now) signs.items) }
     ensures known { IfOk result (λ signs. All (IsKnownAnswer table.now) signs.items) }
 {
     let mut signs = Vec::new(alloc);
-    for number in further {
-        push_signs(&mut signs, table, own, others, Operation(*number))?;
+    for (place, number) in further.iter().enumerate() {
+        if !is_repeated(further, place) {
+            push_signs(&mut signs, table, own, others, Operation(*number))?;
+        }
     }
     Ok(signs)
 }
@@ -133,12 +133,13 @@ fn other_team(team: Team) -> Team
     }
 }
 
-/// The signs of the choice, each once.
+/// The signs of the choice, in order.
 fn all_signs(alloc: Global, table: &Table, choice: &SignChoice) -> Result<Vec<Answer>, AllocError>
     requires { IsKnownChoice table.now choice.now }
     ensures signs { IfOk result (λ signs.
         (a : AnswerOf) → Contains signs.items a ↔ IsSignOf table.now choice.now a) }
-    ensures once { IfOk result (λ signs. AllPairs (λ x y. x ≢ y) signs.items) }
+    ensures order { IfOk result (λ signs.
+        AllPairs (IsBefore choice.now.further.items) signs.items) }
     ensures known { IfOk result (λ signs. All (IsKnownAnswer table.now) signs.items) }
 {
     let states = SignStates::of(table, choice);
