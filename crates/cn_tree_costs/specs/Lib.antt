@@ -1,0 +1,5 @@
+pub mod Cost
+pub mod Least
+pub mod Nodes
+pub mod Outline
+pub mod Sizes

@@ -1,0 +1,107 @@
+//! Laws of the costs of plan trees. A law is a function that does nothing: its contract is the law.
+//!
+//! Everywhere `allowed` are the ways to look that a tree may use at its nodes.
+ghost use Rattle.std.specs.Prelude.{ℕ, List, ◌≡◌, ◌↔◌, Bool, ◌+◌, ◌-◌, ◌*◌, ◌<◌, ◌≤◌, Some, None};
+ghost use Rattle.std.specs.Option.{IsSome};
+ghost use Rattle.cn_table.specs.TypeTable.{TypeTable};
+ghost use Rattle.cn_meetings.specs.Meeting.{Sight};
+ghost use Rattle.cn_meetings.specs.Witness.{Has};
+ghost use Rattle.cn_trees.specs.Consensus.{steps_of};
+ghost use Rattle.cn_trees.specs.Tree.{PlanTree, Teams, comes_to, members, processes_of, team_in};
+ghost use Rattle.cn_tree_costs.specs.Cost.{Cost, IsLeastPlan, IsTreeFor, cost};
+ghost use Rattle.cn_tree_costs.specs.Least.{IsAtMost, IsLoadTable, Load, LoadTable};
+ghost use Rattle.cn_tree_costs.specs.Nodes.{IsAmong, node_at, tree_at};
+ghost use Rattle.cn_tree_costs.specs.Outline.{AreGroups, Outline, groups_in, members_in, steps_in};
+ghost use Rattle.cn_tree_costs.specs.Outline.{sum_in};
+ghost use Rattle.cn_tree_costs.specs.Outline.Outline.{End, Group};
+ghost use Rattle.cn_tree_costs.specs.Sizes.{HasSizes, block, price, sizes_of};
+
+/// The nodes of a plan tree are trees again. New here.
+///
+/// - `processes`, `teams`: the processes that come to a node have numbers from its first one on, and
+///   are in teams of the sizes of the node, one after the other;
+/// - `sub_tree`: the tree at a node is a tree of witnesses for these processes;
+/// - `sizes`: so a witness of the type has teams of the sizes of the node.
+pub fn nodes_are_trees()
+    // promise: nodes-are-trees (IsAmong)
+    ensures processes { (s : Teams) (v p : ℕ) → Has (comes_to s v) p ↔ IsAmong (node_at s v) p }
+    // promise: nodes-are-trees
+    ensures teams { (s : Teams) (v p : ℕ) → Has (comes_to s v) p
+        → team_in s v p ≡ block (sizes_of (node_at s v).teams) (p - (node_at s v).first) }
+    // promise: nodes-are-trees (tree_at)
+    ensures sub_tree { (t : TypeTable) (allowed : Sight → Bool) (n v : ℕ) (T : PlanTree)
+        → IsTreeFor t allowed n T
+        → IsTreeFor t allowed (members (node_at T.teams v).teams) (tree_at T v) }
+    // promise: nodes-are-trees (HasSizes)
+    ensures sizes { (t : TypeTable) (allowed : Sight → Bool) (n v p : ℕ) (T : PlanTree)
+        → IsTreeFor t allowed n T → Has (comes_to T.teams v) p
+        → HasSizes t ((T.meeting v).sight p) (sizes_of (node_at T.teams v).teams) }
+{}
+
+/// A tree of witnesses is a root with trees below it, and its cost follows from the sizes of teams
+/// and from how the processes look, at each node. New here.
+///
+/// - `tree`: if witnesses of the type have the sizes of an outline, there is a tree with its cost:
+///   the price of the root and the greatest number of steps below; one node and those below; and
+///   the price of the root for each process, and the sum below;
+/// - `outline`: each tree has an outline that costs no more: it has no empty teams, and no nodes with
+///   a single team.
+pub fn outlines_are_trees()
+    // promise: outlines-are-trees (AreGroups)
+    ensures tree { (t : TypeTable) (allowed : Sight → Bool) (sight : Sight) (o : Outline)
+        → AreGroups t allowed (Group sight o End)
+        → (T : PlanTree) × IsTreeFor t allowed (members_in o) T
+        × (cost T ≡ record {
+          steps = steps_in o + price sight;
+          nodes = 1 + groups_in o;
+          sum = sum_in o + members_in o * price sight;
+        }) }
+    // promise: outlines-are-trees
+    ensures outline { (t : TypeTable) (allowed : Sight → Bool) (n : ℕ) (T : PlanTree) → 2 ≤ n
+        → IsTreeFor t allowed n T
+        → (sight : Sight) × (o : Outline) × AreGroups t allowed (Group sight o End)
+        × (members_in o ≡ n) × (steps_in o + price sight ≤ (cost T).steps)
+        × (1 + groups_in o ≤ (cost T).nodes)
+        × (sum_in o + members_in o * price sight ≤ (cost T).sum) }
+{}
+
+/// So the least cost depends on the sizes of teams alone: a table with the least load of objects and
+/// steps, for each number of processes and each bound on own steps, has the costs of least plans.
+/// New here.
+///
+/// - `tree`: a load in the table is that of a tree within the bound;
+/// - `least`: and no tree within the bound has less;
+/// - `plan`, `costs`: with the least bound for which n processes have a load, it is the cost of a
+///   least plan, and of each;
+/// - `some_tree`: there is a tree exactly if there is a load within four steps for each process but
+///   one.
+pub fn loads_are_least_costs()
+    // promise: loads-are-least-costs (IsLoadTable)
+    ensures tree { (t : TypeTable) (allowed : Sight → Bool) (most top n b : ℕ) (best : LoadTable)
+        (x : Load) → IsLoadTable t allowed most top best → 2 ≤ n → n ≤ most → b ≤ top
+        → best n b ≡ Some x
+        → (T : PlanTree) × IsTreeFor t allowed n T × ((cost T).steps ≤ b)
+        × ((cost T).nodes ≡ x.nodes) × ((cost T).sum ≡ x.sum) }
+    // promise: loads-are-least-costs (IsAtMost)
+    ensures least { (t : TypeTable) (allowed : Sight → Bool) (most top n b : ℕ) (best : LoadTable)
+        (T : PlanTree) → IsLoadTable t allowed most top best → 1 ≤ n → n ≤ most → b ≤ top
+        → IsTreeFor t allowed n T → (cost T).steps ≤ b
+        → (x : Load) × (best n b ≡ Some x)
+        × IsAtMost x (record { nodes = (cost T).nodes; sum = (cost T).sum }) }
+    // promise: loads-are-least-costs (IsLeastPlan)
+    ensures plan { (t : TypeTable) (allowed : Sight → Bool) (most top n b : ℕ) (best : LoadTable)
+        (x : Load) → IsLoadTable t allowed most top best → 2 ≤ n → n ≤ most → b ≤ top
+        → best n b ≡ Some x → ((c : ℕ) → c < b → best n c ≡ None)
+        → (T : PlanTree) × IsLeastPlan t allowed n T
+        × (cost T ≡ record { steps = b; nodes = x.nodes; sum = x.sum }) }
+    // promise: loads-are-least-costs
+    ensures costs { (t : TypeTable) (allowed : Sight → Bool) (most top n b : ℕ) (best : LoadTable)
+        (x : Load) (T : PlanTree) → IsLoadTable t allowed most top best → 2 ≤ n → n ≤ most
+        → b ≤ top → best n b ≡ Some x → ((c : ℕ) → c < b → best n c ≡ None)
+        → IsLeastPlan t allowed n T
+        → cost T ≡ record { steps = b; nodes = x.nodes; sum = x.sum } }
+    // promise: loads-are-least-costs
+    ensures some_tree { (t : TypeTable) (allowed : Sight → Bool) (most top n : ℕ) (best : LoadTable)
+        → IsLoadTable t allowed most top best → 2 ≤ n → n ≤ most → 4 * (n - 1) ≤ top
+        → IsSome (best n (4 * (n - 1))) ↔ ((T : PlanTree) × IsTreeFor t allowed n T) }
+{}
