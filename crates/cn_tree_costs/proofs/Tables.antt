@@ -1,13 +1,16 @@
 -- The recursion gives the costs of least plans.
 use Rattle.std.proofs.Common.{ℕ, zero, suc, ◌≡◌, Bool, true, false, ◌+◌, ◌-◌, ◌*◌, ◌<◌, ◌≤◌, ◌⊎◌, ◌↔◌, List, [], ◌∷◌, Option, Some, None, IsSome, refl, sym, ap, ◌∙◌, subst, arith, inl, inr, true≢false}
-use Rattle.std.specs.Prelude.{All, sum}
+use Rattle.std.specs.Prelude.{All, Contains, IsPermutation, sum, sum_by}
 use Rattle.std.proofs.lemmas.Bool.{cases_lt}
 use Rattle.std.proofs.lemmas.List.Elements.{All-cons, All-head, All-nil, All-tail, All-weaker}
+use Rattle.std.proofs.lemmas.List.Sorted.{All-permutation, sum_by-IsPermutation}
+use Rattle.std.proofs.lemmas.List.Sums.{sum_by-cons}
+use Rattle.std.proofs.Math.Nat.{mul-le-mul_left}
 use Rattle.cn_table.specs.TypeTable.{TypeTable}
 use Rattle.cn_meetings.specs.Meeting.{Sight, looks}
 use Rattle.cn_trees.specs.Tree.{PlanTree}
 use Rattle.cn_tree_costs.specs.Cost.{IsLeastPlan, IsLess, IsTreeFor, cost}
-use Rattle.cn_tree_costs.specs.Least.{IsAtMost, IsLoadTable, IsRoot, Load, LoadTable, load_of_teams, plus}
+use Rattle.cn_tree_costs.specs.Least.{AreRoots, IsAtMost, IsLoadTable, IsRoot, Load, LoadTable, Root, load_of_teams, plus}
 use Rattle.cn_tree_costs.specs.Outline.{AreGroups, Outline, groups_in, members_in, sizes_in, steps_in, sum_in}
 use Rattle.cn_tree_costs.specs.Outline.Outline.{End, Group, One}
 use Rattle.cn_tree_costs.specs.Sizes.{price}
@@ -18,6 +21,9 @@ use Rattle.cn_tree_costs.proofs.Outlines.{Grown, members_sum, join, join_groups,
 -- ---- loads
 abbrev load : ℕ → ℕ → Load
 load n y = record { nodes = n; sum = y }
+
+abbrev root_of : Sight → List ℕ → Root
+root_of k sizes = record { sight = k; sizes = sizes }
 
 abbrev both : Load → Load → Load
 both x y = load (x.nodes + y.nodes) (x.sum + y.sum)
@@ -56,6 +62,64 @@ at_most_trans x y z (inl h) (inr k) = inl (let a = k.0 in omega arith)
 at_most_trans x y z (inr h) (inl k) = inl (let a = h.0 in omega arith)
 at_most_trans x y z (inr h) (inr k) = inr ((let a = h.0 in let b = k.0 in omega arith), (let a = h.1 in let b = k.1 in omega arith))
 
+-- ---- the loads of teams in another order
+abbrev nodes_or : Option Load → ℕ
+nodes_or None = 0
+nodes_or (Some x) = x.nodes
+
+abbrev sum_or : Option Load → ℕ
+sum_or None = 0
+sum_or (Some x) = x.sum
+
+record IsLoadOf (best : LoadTable) (b : ℕ) (sizes : List ℕ) (z : Load) : Type 0 where
+  pub each : All (λ m. IsSome (best m b)) sizes
+  pub nodes_are : z.nodes ≡ sum_by (λ m. nodes_or (best m b)) sizes
+  pub sum_is : z.sum ≡ sum_by (λ m. sum_or (best m b)) sizes
+
+load_parts : (best : LoadTable) (b : ℕ) (sizes : List ℕ) (z : Load) → load_of_teams best b sizes ≡ Some z → IsLoadOf best b sizes z
+load_parts best b [] z e =
+    let same : load 0 0 ≡ z = cc in
+    record { each = All-nil (λ m. IsSome (best m b)); nodes_are = sym (ap (λ (l : Load). l.nodes) same); sum_is = sym (ap (λ (l : Load). l.sum) same) }
+load_parts best b (m ∷ sizes) z e =
+    let parts = plus_some (best m b) (load_of_teams best b sizes) z e in
+    let rest = load_parts best b sizes parts.y parts.rest in
+    record {
+      each = All-cons (λ q. IsSome (best q b)) m sizes (rw parts.first refl) rest.each;
+      nodes_are = (let n = parts.nodes_are in let r = rest.nodes_are in let f : nodes_or (best m b) ≡ parts.x.nodes = ap nodes_or parts.first in omega (arith, sum_by-cons (λ q. nodes_or (best q b)) m sizes));
+      sum_is = (let n = parts.sum_is in let r = rest.sum_is in let f : sum_or (best m b) ≡ parts.x.sum = ap sum_or parts.first in omega (arith, sum_by-cons (λ q. sum_or (best q b)) m sizes));
+    }
+
+load_from : (best : LoadTable) (b : ℕ) (sizes : List ℕ) (z : Load) → IsLoadOf best b sizes z → load_of_teams best b sizes ≡ Some z
+load_from best b [] z is = same_load 0 0 z.nodes z.sum (sym is.nodes_are) (sym is.sum_is)
+  where
+    same_load : (n y n' y' : ℕ) → n ≡ n' → y ≡ y' → Some (load n y) ≡ Some (load n' y')
+    same_load n y n' y' e f = rw (e, f) refl
+load_from best b (m ∷ sizes) z is =
+    from (best m b) refl (All-head (λ q. IsSome (best q b)) m sizes is.each)
+    (λ y n s. load_from best b sizes y (record { each = All-tail (λ q. IsSome (best q b)) m sizes is.each; nodes_are = n; sum_is = s }))
+  where
+    same_load : (n y n' y' : ℕ) → n ≡ n' → y ≡ y' → Some (load n y) ≡ Some (load n' y')
+    same_load n y n' y' e f = rw (e, f) refl
+
+    from : (o : Option Load) → best m b ≡ o → IsSome o → ((y : Load) → y.nodes ≡ sum_by (λ q. nodes_or (best q b)) sizes → y.sum ≡ sum_by (λ q. sum_or (best q b)) sizes → load_of_teams best b sizes ≡ Some y)
+        → load_of_teams best b (m ∷ sizes) ≡ Some z
+    from None e some rest = absurd (true≢false (sym some))
+    from (Some x) e some rest =
+        let y : Load = load (sum_by (λ q. nodes_or (best q b)) sizes) (sum_by (λ q. sum_or (best q b)) sizes) in
+        let f : nodes_or (best m b) ≡ x.nodes = rw e refl in
+        let g : sum_or (best m b) ≡ x.sum = rw e refl in
+        let n = is.nodes_are in let s = is.sum_is in
+        rw (e, rest y refl refl) (same_load (x.nodes + y.nodes) (x.sum + y.sum) z.nodes z.sum (omega (arith, sum_by-cons (λ q. nodes_or (best q b)) m sizes)) (omega (arith, sum_by-cons (λ q. sum_or (best q b)) m sizes)))
+
+load_shuffled : (best : LoadTable) (b : ℕ) (xs ys : List ℕ) (z : Load) → IsPermutation xs ys → load_of_teams best b xs ≡ Some z → load_of_teams best b ys ≡ Some z
+load_shuffled best b xs ys z shuffled e =
+    let parts = load_parts best b xs z e in
+    load_from best b ys z (record {
+      each = All-permutation (λ m. IsSome (best m b)) xs ys shuffled parts.each;
+      nodes_are = parts.nodes_are ∙ sym (sum_by-IsPermutation (λ m. nodes_or (best m b)) xs ys shuffled);
+      sum_is = parts.sum_is ∙ sym (sum_by-IsPermutation (λ m. sum_or (best m b)) xs ys shuffled);
+    })
+
 price_few : (k : Sight) → (1 ≤ price k) × (price k ≤ 4)
 price_few k = go (looks k) refl
   where
@@ -91,7 +155,7 @@ group_of_tree t allowed n T two tree =
     from (Group k s (Group j u r)) are sizes w f l = absurd cc
     from (Group k s End) are sizes w f l = let e : members_in s ≡ n = cc in (k, s, are, e, omega arith, omega arith, omega arith)
 
-module _ (t : TypeTable) (allowed : Sight → Bool) (most top : ℕ) (best : LoadTable) (is : IsLoadTable t allowed most top best) where
+module _ (t : TypeTable) (allowed : Sight → Bool) (most top : ℕ) (best : LoadTable) (roots : ℕ → List Root) (are : AreRoots t allowed most roots) (is : IsLoadTable roots most top best) where
   -- ---- what the table has is the load of an outline
   record Built (sizes : List ℕ) (b : ℕ) (x : Load) : Type 0 where
     pub outline : Outline
@@ -127,8 +191,8 @@ module _ (t : TypeTable) (allowed : Sight → Bool) (most top : ℕ) (best : Loa
       let same : load 0 0 ≡ y = cc in
       record { outline = One End; proper = tt; sizes_are = refl; within = omega arith; nodes_are = ap (λ (l : Load). l.nodes) same; sum_is = ap (λ (l : Load). l.sum) same }
 
-  one_group : (n b : ℕ) (y : Load) (k : Sight) (sizes : List ℕ) → IsRoot t allowed n b k sizes → (parts : AreParts (Some (load 1 (n * price k))) (load_of_teams best (b - price k) sizes) y) → Built sizes (b - price k) parts.y → Built (n ∷ []) b y
-  one_group n b y k sizes root parts g =
+  one_group : (n b : ℕ) (y : Load) (k : Sight) (sizes : List ℕ) → IsRoot t allowed n (root_of k sizes) → price k ≤ b → (parts : AreParts (Some (load 1 (n * price k))) (load_of_teams best (b - price k) sizes) y) → Built sizes (b - price k) parts.y → Built (n ∷ []) b y
+  one_group n b y k sizes root c parts g =
       let same : load 1 (n * price k) ≡ parts.x = (let f = parts.first in cc) in
       let whole : members_in g.outline ≡ n = sym (members_sum g.outline) ∙ (ap sum g.sizes_are ∙ root.division.whole) in
       record {
@@ -141,7 +205,7 @@ module _ (t : TypeTable) (allowed : Sight → Bool) (most top : ℕ) (best : Loa
           tt,
         );
         sizes_are = ap (λ (m : ℕ). m ∷ []) whole;
-        within = (let w = g.within in let c = root.within in omega arith);
+        within = (let w = g.within in omega arith);
         nodes_are = (let a : 1 ≡ parts.x.nodes = ap (λ (l : Load). l.nodes) same in let w = g.nodes_are in let z = parts.nodes_are in omega arith);
         sum_is = (let a : n * price k ≡ parts.x.sum = ap (λ (l : Load). l.sum) same in let w = g.sum_is in let z = parts.sum_is in let d : members_in g.outline * price k ≡ n * price k = ap (λ (m : ℕ). m * price k) whole in omega arith);
       }
@@ -156,10 +220,14 @@ module _ (t : TypeTable) (allowed : Sight → Bool) (most top : ℕ) (best : Loa
       larger : 2 ≤ m → ((c k : ℕ) (z : Load) → 1 ≤ k → k ≤ fuel → k ≤ most → c ≤ top → best k c ≡ Some z → Built (k ∷ []) c z) → Built (m ∷ []) b y
       larger two below =
           let a = is.attained m b y two lm lb e in
-          let parts = plus_some (Some (load 1 (m * price a.0))) (load_of_teams best (b - price a.0) a.1) y a.3 in
-          let shorter : All (λ q. (1 ≤ q) × (q ≤ m - 1)) a.1 = All-weaker (λ q. (1 ≤ q) × (q < m)) (λ q. (1 ≤ q) × (q ≤ m - 1)) (λ q h. (h.0, (let l = h.1 in omega arith))) a.1 (fewer_each m a.1 a.2.division) in
-          one_group m b y a.0 a.1 a.2 parts
-          (list_built (m - 1) (b - price a.0) (λ q z some' le e'. below (b - price a.0) q z some' (omega arith) (omega arith) (omega arith) e') a.1 shorter parts.y parts.rest)
+          let k : Sight = a.0.sight in
+          let sizes : List ℕ = a.0.sizes in
+          let root = are.sound m a.0 a.1 in
+          let paid = a.2 in
+          let parts = plus_some (Some (load 1 (m * price k))) (load_of_teams best (b - price k) sizes) y a.3 in
+          let shorter : All (λ q. (1 ≤ q) × (q ≤ m - 1)) sizes = All-weaker (λ q. (1 ≤ q) × (q < m)) (λ q. (1 ≤ q) × (q ≤ m - 1)) (λ q h. (h.0, (let l = h.1 in omega arith))) sizes (fewer_each m sizes root.division) in
+          one_group m b y k sizes root paid parts
+          (list_built (m - 1) (b - price k) (λ q z some' le e'. below (b - price k) q z some' (omega arith) (omega arith) (omega arith) e') sizes shorter parts.y parts.rest)
 
   raise : (n b : ℕ) (x : Load) (s : Outline) → 2 ≤ n → AreGroups t allowed s → sizes_in s ≡ n ∷ [] → steps_in s ≤ b → groups_in s ≡ x.nodes → sum_in s ≡ x.sum → Raised t allowed n b x.nodes x.sum
   raise n b x End two proper sizes w o y = absurd cc
@@ -196,24 +264,33 @@ module _ (t : TypeTable) (allowed : Sight → Bool) (most top : ℕ) (best : Loa
             (at_most_both (load 0 0) (load 0 0) h.0 (load (groups_in r) (sum_in r)) (inr (refl, omega arith)) h.2) (omega arith) (omega arith),
       )
   load_of_outline (Group k s r) b lb proper each w =
-      group
-      (load_of_outline s (b - price k) (omega arith) proper.3 (All-weaker (λ m. (1 ≤ m) × (m < members_in s)) (λ m. m ≤ most) (λ m z. (let y = z.1 in omega (arith, head))) (sizes_in s) (fewer_each (members_in s) (sizes_in s) proper.2)) (omega arith))
+      let listed = found in
+      let cheaper = listed.2 in
+      group listed.0.sight listed.0.sizes listed.1 listed.2 listed.3
+      (load_of_outline s (b - price listed.0.sight) (omega arith) proper.3 (All-weaker (λ m. (1 ≤ m) × (m < members_in s)) (λ m. m ≤ most) (λ m z. (let y = z.1 in omega (arith, head))) (sizes_in s) (fewer_each (members_in s) (sizes_in s) proper.2)) (omega arith))
       (load_of_outline r b lb proper.4 (All-tail (λ m. m ≤ most) (members_in s) (sizes_in r) each) (omega arith))
     where
       head : members_in s ≤ most
       head = All-head (λ m. m ≤ most) (members_in s) (sizes_in r) each
 
-      group : HasLoad (b - price k) (sizes_in s) (load (groups_in s) (sum_in s)) → HasLoad b (sizes_in r) (load (groups_in r) (sum_in r)) → HasLoad b (members_in s ∷ sizes_in r) (load (1 + groups_in s + groups_in r) (sum_in s + members_in s * price k + sum_in r))
-      group g h =
-          let own : Load = both (load 1 (members_in s * price k)) g.0 in
-          let found = is.least (members_in s) b own k (sizes_in s) (two_or_more (members_in s) (sizes_in s) proper.2) head lb
-          (record { is_allowed = proper.0; witness = proper.1; division = proper.2; within = omega arith }) (rw g.1 refl) in
-          let less : IsAtMost own (load (1 + groups_in s) (members_in s * price k + sum_in s)) = at_most_both (load 1 (members_in s * price k)) (load 1 (members_in s * price k)) g.0 (load (groups_in s) (sum_in s)) (inr (refl, omega arith)) g.2 in
-          let sum : IsAtMost (both found.0 h.0) (both (load (1 + groups_in s) (members_in s * price k + sum_in s)) (load (groups_in r) (sum_in r))) =
-          at_most_both found.0 (load (1 + groups_in s) (members_in s * price k + sum_in s)) h.0 (load (groups_in r) (sum_in r)) (at_most_trans found.0 own (load (1 + groups_in s) (members_in s * price k + sum_in s)) found.2 less) h.2 in (
-            both found.0 h.0,
-            rw (found.1, h.1) refl,
-            at_most_on (both found.0 h.0) (both (load (1 + groups_in s) (members_in s * price k + sum_in s)) (load (groups_in r) (sum_in r))) (load (1 + groups_in s + groups_in r) (sum_in s + members_in s * price k + sum_in r)) sum (omega arith) (omega arith),
+      found : (other : Root) × Contains (roots (members_in s)) other × (price other.sight ≤ price k) × IsPermutation (sizes_in s) other.sizes
+      found = are.enough (members_in s) (root_of k (sizes_in s)) head (record { is_allowed = proper.0; witness = proper.1; division = proper.2 })
+
+      group : (other : Sight) (sizes : List ℕ) → Contains (roots (members_in s)) (root_of other sizes) → price other ≤ price k → IsPermutation (sizes_in s) sizes
+          → HasLoad (b - price other) (sizes_in s) (load (groups_in s) (sum_in s)) → HasLoad b (sizes_in r) (load (groups_in r) (sum_in r))
+          → HasLoad b (members_in s ∷ sizes_in r) (load (1 + groups_in s + groups_in r) (sum_in s + members_in s * price k + sum_in r))
+      group other sizes listed cheaper shuffled g h =
+          let node : Load = load 1 (members_in s * price other) in
+          let own : Load = both node g.0 in
+          let least = is.least (members_in s) b own (root_of other sizes) (two_or_more (members_in s) (sizes_in s) proper.2) head lb listed (omega arith)
+          (rw (load_shuffled best (b - price other) (sizes_in s) sizes g.0 shuffled g.1) refl) in
+          let less : IsAtMost own (both node (load (groups_in s) (sum_in s))) = at_most_both node node g.0 (load (groups_in s) (sum_in s)) (inr (refl, omega arith)) g.2 in
+          let whole : IsAtMost (both least.0 h.0) (both (both node (load (groups_in s) (sum_in s))) (load (groups_in r) (sum_in r))) =
+          at_most_both least.0 (both node (load (groups_in s) (sum_in s))) h.0 (load (groups_in r) (sum_in r)) (at_most_trans least.0 own (both node (load (groups_in s) (sum_in s))) least.2 less) h.2 in
+          let m : members_in s * price other ≤ members_in s * price k = mul-le-mul_left (members_in s) cheaper in (
+            both least.0 h.0,
+            rw (least.1, h.1) refl,
+            at_most_on (both least.0 h.0) (both (both node (load (groups_in s) (sum_in s))) (load (groups_in r) (sum_in r))) (load (1 + groups_in s + groups_in r) (sum_in s + members_in s * price k + sum_in r)) whole (omega arith) (omega arith),
           )
 
   -- within these steps the table has a load for n, and it is no more

@@ -9,7 +9,7 @@ ghost use Rattle.cn_meetings.specs.Witness.{Has};
 ghost use Rattle.cn_trees.specs.Consensus.{steps_of};
 ghost use Rattle.cn_trees.specs.Tree.{PlanTree, Teams, comes_to, members, processes_of, team_in};
 ghost use Rattle.cn_tree_costs.specs.Cost.{Cost, IsLeastPlan, IsTreeFor, cost};
-ghost use Rattle.cn_tree_costs.specs.Least.{IsAtMost, IsLoadTable, Load, LoadTable};
+ghost use Rattle.cn_tree_costs.specs.Least.{AreRoots, IsAtMost, IsLoadTable, Load, LoadTable, Root};
 ghost use Rattle.cn_tree_costs.specs.Nodes.{IsAmong, node_at, tree_at};
 ghost use Rattle.cn_tree_costs.specs.Outline.{AreGroups, Outline, groups_in, members_in, steps_in};
 ghost use Rattle.cn_tree_costs.specs.Outline.{sum_in};
@@ -78,30 +78,35 @@ pub fn outlines_are_trees()
 pub fn loads_are_least_costs()
     // promise: loads-are-least-costs (IsLoadTable)
     ensures tree { (t : TypeTable) (allowed : Sight → Bool) (most top n b : ℕ) (best : LoadTable)
-        (x : Load) → IsLoadTable t allowed most top best → 2 ≤ n → n ≤ most → b ≤ top
+        (x : Load) (roots : ℕ → List Root) → AreRoots t allowed most roots
+        → IsLoadTable roots most top best → 2 ≤ n → n ≤ most → b ≤ top
         → best n b ≡ Some x
         → (T : PlanTree) × IsTreeFor t allowed n T × ((cost T).steps ≤ b)
         × ((cost T).nodes ≡ x.nodes) × ((cost T).sum ≡ x.sum) }
     // promise: loads-are-least-costs (IsAtMost)
     ensures least { (t : TypeTable) (allowed : Sight → Bool) (most top n b : ℕ) (best : LoadTable)
-        (T : PlanTree) → IsLoadTable t allowed most top best → 1 ≤ n → n ≤ most → b ≤ top
+        (T : PlanTree) (roots : ℕ → List Root) → AreRoots t allowed most roots
+        → IsLoadTable roots most top best → 1 ≤ n → n ≤ most → b ≤ top
         → IsTreeFor t allowed n T → (cost T).steps ≤ b
         → (x : Load) × (best n b ≡ Some x)
         × IsAtMost x (record { nodes = (cost T).nodes; sum = (cost T).sum }) }
     // promise: loads-are-least-costs (IsLeastPlan)
     ensures plan { (t : TypeTable) (allowed : Sight → Bool) (most top n b : ℕ) (best : LoadTable)
-        (x : Load) → IsLoadTable t allowed most top best → 2 ≤ n → n ≤ most → b ≤ top
+        (x : Load) (roots : ℕ → List Root) → AreRoots t allowed most roots
+        → IsLoadTable roots most top best → 2 ≤ n → n ≤ most → b ≤ top
         → best n b ≡ Some x → ((c : ℕ) → c < b → best n c ≡ None)
         → (T : PlanTree) × IsLeastPlan t allowed n T
         × (cost T ≡ record { steps = b; nodes = x.nodes; sum = x.sum }) }
     // promise: loads-are-least-costs
     ensures costs { (t : TypeTable) (allowed : Sight → Bool) (most top n b : ℕ) (best : LoadTable)
-        (x : Load) (T : PlanTree) → IsLoadTable t allowed most top best → 2 ≤ n → n ≤ most
+        (x : Load) (T : PlanTree) (roots : ℕ → List Root)
+        → AreRoots t allowed most roots → IsLoadTable roots most top best → 2 ≤ n → n ≤ most
         → b ≤ top → best n b ≡ Some x → ((c : ℕ) → c < b → best n c ≡ None)
         → IsLeastPlan t allowed n T
         → cost T ≡ record { steps = b; nodes = x.nodes; sum = x.sum } }
     // promise: loads-are-least-costs
     ensures some_tree { (t : TypeTable) (allowed : Sight → Bool) (most top n : ℕ) (best : LoadTable)
-        → IsLoadTable t allowed most top best → 2 ≤ n → n ≤ most → 4 * (n - 1) ≤ top
+        (roots : ℕ → List Root) → AreRoots t allowed most roots
+        → IsLoadTable roots most top best → 2 ≤ n → n ≤ most → 4 * (n - 1) ≤ top
         → IsSome (best n (4 * (n - 1))) ↔ ((T : PlanTree) × IsTreeFor t allowed n T) }
 {}
