@@ -1,7 +1,9 @@
 mod Growing
 mod Numbers
+mod OneNode
 mod Outlines
 mod NodesOf
+mod Regrouping
 mod Steps
 mod SubTrees
 mod Tables

@@ -1,14 +1,15 @@
 -- Sums, greatest values, and sizes of teams.
-use Rattle.std.proofs.Common.{ℕ, zero, suc, ◌≡◌, ◌+◌, ◌-◌, ◌*◌, ◌<◌, ◌≤◌, List, [], ◌∷◌, length, refl, arith, nat_lt, suc-mul, inl, inr, true, false}
+use Rattle.std.proofs.Common.{ℕ, zero, suc, ◌≡◌, ◌+◌, ◌-◌, ◌*◌, ◌<◌, ◌≤◌, List, [], ◌∷◌, length, refl, ◌∙◌, arith, nat_lt, suc-mul, inl, inr, true, false, Bool}
 use Rattle.std.specs.Prelude.{All, sum}
 use Rattle.std.proofs.lemmas.Bool.{cases_eq}
 use Rattle.std.proofs.lemmas.Bool.Decides.{nat_tests}
 use Rattle.std.proofs.lemmas.List.Elements.{All-cons, All-head, All-nil, All-tail, All-weaker}
 use Rattle.std.proofs.lemmas.List.Sums.{sum_by-cons}
+use Rattle.cn_meetings.specs.Meeting.{Sight, looks}
 use Rattle.cn_trees.specs.Tree.{Teams, members}
 use Rattle.cn_trees.specs.Tree.Teams.{Alone, Last, Meet}
 use Rattle.cn_tree_costs.specs.Cost.{greatest, total}
-use Rattle.cn_tree_costs.specs.Sizes.{IsDivision, block, sizes_of}
+use Rattle.cn_tree_costs.specs.Sizes.{IsDivision, block, price, sizes_of}
 
 pub sum_cons : (m : ℕ) (sizes : List ℕ) → sum (m ∷ sizes) ≡ m + sum sizes
 sum_cons m sizes = sum_by-cons (λ x. x) m sizes
@@ -78,3 +79,18 @@ fewer_each n sizes division =
 
 pub two_or_more : (n : ℕ) (sizes : List ℕ) → IsDivision n sizes → 2 ≤ n
 two_or_more n sizes division = let w = division.whole in let l = division.several in let h = long_sum sizes division.inhabited in omega arith
+
+-- ---- prices
+pub price_few : (k : Sight) → (3 ≤ price k) × (price k ≤ 4)
+price_few k = go (looks k) refl
+  where
+    go : (b : Bool) → looks k ≡ b → (3 ≤ price k) × (price k ≤ 4)
+    go true e = rw e (omega arith, omega arith)
+    go false e = rw e (omega arith, omega arith)
+
+total_constant : (c n : ℕ) → total (λ i. c) n ≡ n * c
+total_constant c zero = omega arith
+total_constant c (suc n) = omega (arith, total_constant c n, suc-mul n c)
+
+pub total_each : (f : ℕ → ℕ) (c n : ℕ) → ((i : ℕ) → i < n → f i ≡ c) → total f n ≡ n * c
+total_each f c n each = total_same f (λ i. c) n each ∙ total_constant c n

@@ -1,5 +1,5 @@
 -- The recursion gives the costs of least plans.
-use Rattle.std.proofs.Common.{ℕ, zero, suc, ◌≡◌, Bool, true, false, ◌+◌, ◌-◌, ◌*◌, ◌<◌, ◌≤◌, ◌⊎◌, ◌↔◌, List, [], ◌∷◌, Option, Some, None, IsSome, refl, sym, ap, ◌∙◌, subst, arith, inl, inr, true≢false}
+use Rattle.std.proofs.Common.{ℕ, zero, suc, ◌≡◌, Bool, ◌+◌, ◌-◌, ◌*◌, ◌<◌, ◌≤◌, ◌⊎◌, ◌↔◌, List, [], ◌∷◌, Option, Some, None, IsSome, refl, sym, ap, ◌∙◌, subst, arith, inl, inr, true≢false}
 use Rattle.std.specs.Prelude.{All, Contains, IsPermutation, sum, sum_by}
 use Rattle.std.proofs.lemmas.Bool.{cases_lt}
 use Rattle.std.proofs.lemmas.List.Elements.{All-cons, All-head, All-nil, All-tail, All-weaker}
@@ -7,7 +7,7 @@ use Rattle.std.proofs.lemmas.List.Sorted.{All-permutation, sum_by-IsPermutation}
 use Rattle.std.proofs.lemmas.List.Sums.{sum_by-cons}
 use Rattle.std.proofs.Math.Nat.{mul-le-mul_left}
 use Rattle.cn_table.specs.TypeTable.{TypeTable}
-use Rattle.cn_meetings.specs.Meeting.{Sight, looks}
+use Rattle.cn_meetings.specs.Meeting.{Sight}
 use Rattle.cn_trees.specs.Tree.{PlanTree}
 use Rattle.cn_tree_costs.specs.Cost.{IsLeastPlan, IsLess, IsTreeFor, cost}
 use Rattle.cn_tree_costs.specs.Least.{AreRoots, IsAtMost, IsLoadTable, IsRoot, Load, LoadTable, Root, load_of_teams, plus}
@@ -15,7 +15,7 @@ use Rattle.cn_tree_costs.specs.Outline.{AreGroups, Outline, groups_in, members_i
 use Rattle.cn_tree_costs.specs.Outline.Outline.{End, Group, One}
 use Rattle.cn_tree_costs.specs.Sizes.{price}
 use Rattle.cn_tree_costs.proofs.Growing.{Raised, raised, same_cost}
-use Rattle.cn_tree_costs.proofs.Numbers.{fewer_each, two_or_more}
+use Rattle.cn_tree_costs.proofs.Numbers.{fewer_each, price_few, two_or_more}
 use Rattle.cn_tree_costs.proofs.Outlines.{Grown, members_sum, join, join_groups, join_are, join_sizes, join_sum, join_steps, outline_of_tree}
 
 -- ---- loads
@@ -119,13 +119,6 @@ load_shuffled best b xs ys z shuffled e =
       nodes_are = parts.nodes_are ∙ sym (sum_by-IsPermutation (λ m. nodes_or (best m b)) xs ys shuffled);
       sum_is = parts.sum_is ∙ sym (sum_by-IsPermutation (λ m. sum_or (best m b)) xs ys shuffled);
     })
-
-price_few : (k : Sight) → (1 ≤ price k) × (price k ≤ 4)
-price_few k = go (looks k) refl
-  where
-    go : (b : Bool) → looks k ≡ b → (1 ≤ price k) × (price k ≤ 4)
-    go true e = rw e (omega arith, omega arith)
-    go false e = rw e (omega arith, omega arith)
 
 -- an outline is within four steps for each process but one
 steps_few : (t : TypeTable) (allowed : Sight → Bool) (s : Outline) (c : ℕ) → AreGroups t allowed s → All (λ m. 4 * m ≤ c + 4) (sizes_in s) → steps_in s ≤ c

@@ -2,11 +2,16 @@
 //!
 //! Everywhere `allowed` are the ways to look that a tree may use at its nodes.
 ghost use Rattle.std.specs.Prelude.{ℕ, List, ◌≡◌, ◌↔◌, Bool, ◌+◌, ◌-◌, ◌*◌, ◌<◌, ◌≤◌, Some, None};
+ghost use Rattle.std.specs.Prelude.{◌∷◌, length, slice_index_or, true, IsPermutation};
 ghost use Rattle.std.specs.Option.{IsSome};
 ghost use Rattle.cn_table.specs.TypeTable.{TypeTable};
-ghost use Rattle.cn_meetings.specs.Meeting.{Sight};
-ghost use Rattle.cn_meetings.specs.Witness.{Has};
+ghost use Rattle.cn_meetings.specs.Examples.{compare_and_swap};
+ghost use Rattle.cn_meetings.specs.Meeting.{IsSightOf, Meeting, Sight};
+ghost use Rattle.cn_meetings.specs.Meeting.Sight.{State};
+ghost use Rattle.cn_meetings.specs.Witness.{Has, IsTeamWitness};
 ghost use Rattle.cn_trees.specs.Consensus.{steps_of};
+ghost use Rattle.cn_trees.specs.Examples.{one_compare_and_swap};
+ghost use Rattle.cn_trees.specs.Seats.{HasRoles};
 ghost use Rattle.cn_trees.specs.Tree.{PlanTree, Teams, comes_to, members, processes_of, team_in};
 ghost use Rattle.cn_tree_costs.specs.Cost.{Cost, IsLeastPlan, IsTreeFor, cost};
 ghost use Rattle.cn_tree_costs.specs.Least.{AreRoots, IsAtMost, IsLoadTable, Load, LoadTable, Root};
@@ -15,6 +20,11 @@ ghost use Rattle.cn_tree_costs.specs.Outline.{AreGroups, Outline, groups_in, mem
 ghost use Rattle.cn_tree_costs.specs.Outline.{sum_in};
 ghost use Rattle.cn_tree_costs.specs.Outline.Outline.{End, Group};
 ghost use Rattle.cn_tree_costs.specs.Sizes.{HasSizes, block, price, sizes_of};
+
+use cn_meetings::laws::examples_are_of_types;
+use cn_trees::laws::{
+    one_node_of_compare_and_swap, parting_operations_make_plan_trees, witnesses_make_plan_trees,
+};
 
 /// The nodes of a plan tree are trees again. New here.
 ///
@@ -110,3 +120,51 @@ pub fn loads_are_least_costs()
         → IsLoadTable roots most top best → 2 ≤ n → n ≤ most → 4 * (n - 1) ≤ top
         → IsSome (best n (4 * (n - 1))) ↔ ((T : PlanTree) × IsTreeFor t allowed n T) }
 {}
+
+/// What keeps the sizes of a witness:
+///
+/// - `any_numbers`: a witness with roles for teams of these sizes has them;
+/// - `any_order`: and in any order;
+/// - `merged`: merging two teams keeps a witness;
+/// - `smaller`: so does leaving out processes, of any teams;
+/// - `read`: and so does a read by each process.
+pub fn sizes_are_kept()
+    // promise: sizes-are-kept (HasRoles)
+    ensures any_numbers { (t : TypeTable) (sight : Sight) (M : Meeting) (processes : ℕ → Bool)
+        (team : ℕ → ℕ) (sizes : List ℕ) (role : ℕ → ℕ → ℕ)
+        → HasRoles processes team (λ g. slice_index_or sizes g 0) role
+        → M.start < length t.states
+        → ((p : ℕ) → Has processes p → M.operation p < length t.operations)
+        → ((p : ℕ) → Has processes p → M.sight p ≡ sight) → IsSightOf t sight
+        → IsTeamWitness t M processes team → HasSizes t sight sizes }
+    // promise: sizes-are-kept
+    ensures any_order { (t : TypeTable) (sight : Sight) (sizes others : List ℕ)
+        → IsPermutation sizes others → HasSizes t sight sizes → HasSizes t sight others }
+    // promise: sizes-are-kept
+    ensures merged { (t : TypeTable) (sight : Sight) (a b : ℕ) (sizes : List ℕ)
+        → HasSizes t sight (a ∷ b ∷ sizes) → HasSizes t sight ((a + b) ∷ sizes) }
+    // promise: sizes-are-kept
+    ensures smaller { (t : TypeTable) (sight : Sight) (sizes fewer : List ℕ)
+        → ((g : ℕ) → slice_index_or fewer g 0 ≤ slice_index_or sizes g 0)
+        → HasSizes t sight sizes → HasSizes t sight fewer }
+    // promise: sizes-are-kept
+    ensures read { (t : TypeTable) (sight : Sight) (sizes : List ℕ) → HasSizes t sight sizes
+        → HasSizes t State sizes }
+{}
+
+/// A tree of one node at which nobody looks is least: three steps, one object. So compare-and-swap
+/// from one value to k others has a least plan of one node for k processes.
+pub fn one_node_is_least()
+    // promise: one-node-is-least
+    ensures one_node { (t : TypeTable) (allowed : Sight → Bool) (n : ℕ) (T : PlanTree) → 2 ≤ n
+        → IsTreeFor t allowed n T → cost T ≡ record { steps = 3; nodes = 1; sum = n * 3 }
+        → IsLeastPlan t allowed n T }
+    // promise: one-node-is-least (IsLeastPlan)
+    ensures compare_and_swap { (k : ℕ) → 2 ≤ k
+        → IsLeastPlan (compare_and_swap k) (λ sight. true) k (one_compare_and_swap k) }
+{
+    examples_are_of_types();
+    one_node_of_compare_and_swap();
+    parting_operations_make_plan_trees();
+    witnesses_make_plan_trees();
+}
