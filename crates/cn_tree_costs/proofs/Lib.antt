@@ -2,6 +2,7 @@ mod Growing
 mod Numbers
 mod OneNode
 mod Outlines
+mod Joining
 mod NodesOf
 mod Regrouping
 mod Steps

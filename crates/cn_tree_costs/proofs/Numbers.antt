@@ -1,5 +1,5 @@
 -- Sums, greatest values, and sizes of teams.
-use Rattle.std.proofs.Common.{ℕ, zero, suc, ◌≡◌, ◌+◌, ◌-◌, ◌*◌, ◌<◌, ◌≤◌, List, [], ◌∷◌, length, refl, ◌∙◌, arith, nat_lt, suc-mul, inl, inr, true, false, Bool}
+use Rattle.std.proofs.Common.{ℕ, zero, suc, ◌≡◌, ◌+◌, ◌-◌, ◌*◌, ◌<◌, ◌≤◌, max, List, [], ◌∷◌, length, refl, ◌∙◌, arith, nat_lt, suc-mul, inl, inr, true, false, Bool}
 use Rattle.std.specs.Prelude.{All, sum}
 use Rattle.std.proofs.lemmas.Bool.{cases_eq}
 use Rattle.std.proofs.lemmas.Bool.Decides.{nat_tests}
@@ -51,6 +51,21 @@ greatest_from f zero i lt = absurd (omega arith)
 greatest_from f (suc n) i lt = elim (cases_eq i n) [
   | inl e ↦ rw e (omega arith)
   | inr ne ↦ omega (arith, greatest_from f n i (omega arith))
+]
+
+pub greatest_same : (f g : ℕ → ℕ) (n : ℕ) → ((i : ℕ) → i < n → f i ≡ g i) → greatest f n ≡ greatest g n
+greatest_same f g zero same = refl
+greatest_same f g (suc n) same = omega (arith, greatest_same f g n (λ i lt. same i (omega arith)), same n (omega arith))
+
+pub greatest_append : (f : ℕ → ℕ) (a b : ℕ) → greatest f (a + b) ≡ max (greatest f a) (greatest (λ i. f (a + i)) b)
+greatest_append f a zero = let e : a + zero ≡ a = omega arith in rw e (omega arith)
+greatest_append f a (suc b) = let e : a + suc b ≡ suc (a + b) = omega arith in rw e (omega (arith, greatest_append f a b))
+
+pub greatest_plus : (f : ℕ → ℕ) (c n : ℕ) → 1 ≤ n → greatest (λ i. f i + c) n ≡ greatest f n + c
+greatest_plus f c zero some = absurd (omega arith)
+greatest_plus f c (suc n) some = elim (cases_eq n 0) [
+  | inl e ↦ rw e (omega arith)
+  | inr ne ↦ omega (arith, greatest_plus f c n (omega arith))
 ]
 
 -- ---- sizes of several teams

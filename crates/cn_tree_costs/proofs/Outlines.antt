@@ -206,22 +206,22 @@ module _ (t : TypeTable) (allowed : Sight → Bool) (sights : ℕ → Sight) (ea
 
 -- every tree has an outline that costs no more
 module _ (allowed : Sight → Bool) (T : PlanTree) (witnesses : AreWitnesses T) (of_type : IsOfType T) (uniform : IsUniform allowed T) where
-  abbrev own_sights : ℕ → Sight
+  abbrev pub own_sights : ℕ → Sight
   own_sights v = (uniform v).0
 
-  abbrev own_prices : ℕ → ℕ
+  abbrev pub own_prices : ℕ → ℕ
   own_prices v = price (own_sights v)
 
   abbrev lower_sum : ℕ
   lower_sum = total (under own_prices T.teams 1) (members T.teams)
 
-  own_steps : (p : ℕ) → p < processes_of T → steps_of T p ≡ under own_prices T.teams 1 p + own_prices 0
+  pub own_steps : (p : ℕ) → p < processes_of T → steps_of T p ≡ under own_prices T.teams 1 p + own_prices 0
   own_steps p lp = steps_are T own_sights (λ v q h. (uniform v).2 q h) p lp
 
   own_sum : (cost T).sum ≡ lower_sum + members T.teams * own_prices 0
   own_sum = total_same (steps_of T) (λ p. under own_prices T.teams 1 p + own_prices 0) (processes_of T) own_steps ∙ total_plus (under own_prices T.teams 1) (own_prices 0) (members T.teams)
 
-  own_has : (v : ℕ) → 0 < members (node_at T.teams v).teams → HasSizes T.table (own_sights v) (sizes_of (node_at T.teams v).teams)
+  pub own_has : (v : ℕ) → 0 < members (node_at T.teams v).teams → HasSizes T.table (own_sights v) (sizes_of (node_at T.teams v).teams)
   own_has v some = sizes_at T witnesses of_type v (own_sights v) (λ p h. (uniform v).2 p h) some
 
   within_cost : (p : ℕ) → p < members T.teams → under own_prices T.teams 1 p ≤ (cost T).steps - own_prices 0

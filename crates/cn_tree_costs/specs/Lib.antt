@@ -1,3 +1,4 @@
+pub mod Branches
 pub mod Cost
 pub mod Least
 pub mod Nodes

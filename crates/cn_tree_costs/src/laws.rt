@@ -2,7 +2,7 @@
 //!
 //! Everywhere `allowed` are the ways to look that a tree may use at its nodes.
 ghost use Rattle.std.specs.Prelude.{ℕ, List, ◌≡◌, ◌↔◌, Bool, ◌+◌, ◌-◌, ◌*◌, ◌<◌, ◌≤◌, Some, None};
-ghost use Rattle.std.specs.Prelude.{◌∷◌, length, slice_index_or, true, IsPermutation};
+ghost use Rattle.std.specs.Prelude.{◌∷◌, length, map, sum, slice_index_or, true, IsPermutation};
 ghost use Rattle.std.specs.Option.{IsSome};
 ghost use Rattle.cn_table.specs.TypeTable.{TypeTable};
 ghost use Rattle.cn_meetings.specs.Examples.{compare_and_swap};
@@ -13,6 +13,7 @@ ghost use Rattle.cn_trees.specs.Consensus.{steps_of};
 ghost use Rattle.cn_trees.specs.Examples.{one_compare_and_swap};
 ghost use Rattle.cn_trees.specs.Seats.{HasRoles};
 ghost use Rattle.cn_trees.specs.Tree.{PlanTree, Teams, comes_to, members, processes_of, team_in};
+ghost use Rattle.cn_tree_costs.specs.Branches.{AreBranches, Branch, joined_cost, size_of};
 ghost use Rattle.cn_tree_costs.specs.Cost.{Cost, IsLeastPlan, IsTreeFor, cost};
 ghost use Rattle.cn_tree_costs.specs.Least.{AreRoots, IsAtMost, IsLoadTable, Load, LoadTable, Root};
 ghost use Rattle.cn_tree_costs.specs.Nodes.{IsAmong, node_at, tree_at};
@@ -46,6 +47,29 @@ pub fn nodes_are_trees()
     ensures sizes { (t : TypeTable) (allowed : Sight → Bool) (n v p : ℕ) (T : PlanTree)
         → IsTreeFor t allowed n T → Has (comes_to T.teams v) p
         → HasSizes t ((T.meeting v).sight p) (sizes_of (node_at T.teams v).teams) }
+{}
+
+/// Trees make a tree. New here.
+///
+/// - `joined`: a witness with teams of these sizes, and a tree for each team or a process alone, make
+///   a tree. It costs the price of the root and the greatest number of steps of the trees; one node
+///   and those of the trees; and the price of the root for each process, and the sums of the trees;
+/// - `from_nodes`: a witness for each node that has a process, with teams of its sizes, makes a tree
+///   with these teams, whose processes look as those of the witnesses.
+pub fn trees_are_joined()
+    // promise: trees-are-joined (joined_cost)
+    ensures joined { (t : TypeTable) (allowed : Sight → Bool) (sight : Sight)
+        (branches : List Branch) → allowed sight ≡ true → HasSizes t sight (map size_of branches)
+        → 1 ≤ sum (map size_of branches) → AreBranches t allowed branches
+        → (T : PlanTree) × IsTreeFor t allowed (sum (map size_of branches)) T
+        × (cost T ≡ joined_cost sight branches) }
+    // promise: trees-are-joined
+    ensures from_nodes { (t : TypeTable) (allowed : Sight → Bool) (s : Teams) (sights : ℕ → Sight)
+        → 1 ≤ members s
+        → ((v p : ℕ) → IsAmong (node_at s v) p → (allowed (sights v) ≡ true)
+        × HasSizes t (sights v) (sizes_of (node_at s v).teams))
+        → (T : PlanTree) × IsTreeFor t allowed (members s) T × (T.teams ≡ s)
+        × ((v p : ℕ) → Has (comes_to s v) p → (T.meeting v).sight p ≡ sights v) }
 {}
 
 /// A tree of witnesses is a root with trees below it, and its cost follows from the sizes of teams
