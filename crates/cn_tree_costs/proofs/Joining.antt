@@ -84,7 +84,7 @@ from_nodes (None ∷ branches) = omega (arith, from_nodes branches)
 from_nodes (Some T ∷ branches) = omega (arith, from_nodes branches)
 
 -- prices that agree from two nodes on
-under_shift : (f g : ℕ → ℕ) (u : Teams) (a b : ℕ) → ((v : ℕ) → v < nodes_in u → f (a + v) ≡ g (b + v)) → (p : ℕ) → under f u a p ≡ under g u b p
+pub under_shift : (f g : ℕ → ℕ) (u : Teams) (a b : ℕ) → ((v : ℕ) → v < nodes_in u → f (a + v) ≡ g (b + v)) → (p : ℕ) → under f u a p ≡ under g u b p
 under_shift f g Last a b same p = refl
 under_shift f g (Alone r) a b same zero = refl
 under_shift f g (Alone r) a b same (suc p) = under_shift f g r a b same p

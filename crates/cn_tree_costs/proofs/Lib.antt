@@ -5,6 +5,7 @@ mod Outlines
 mod Joining
 mod NodesOf
 mod Regrouping
+mod Splitting
 mod Steps
 mod SubTrees
 mod Tables

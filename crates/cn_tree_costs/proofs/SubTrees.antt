@@ -15,7 +15,7 @@ use Rattle.cn_tree_costs.specs.Sizes.{block, sizes_of}
 use Rattle.cn_tree_costs.proofs.NodesOf.{among_comes, among_whole, comes_among, meet_nodes, team_of_node}
 use Rattle.cn_tree_costs.proofs.Witnesses.{same_teams}
 
-same_node : (f g : ℕ) (s : Teams) → f ≡ g → ◌≡◌ {A = Node} (record { first = f; teams = s }) (record { first = g; teams = s })
+pub same_node : (f g : ℕ) (s : Teams) → f ≡ g → ◌≡◌ {A = Node} (record { first = f; teams = s }) (record { first = g; teams = s })
 same_node f g s e = rw e refl
 
 -- where the tree of a node ends

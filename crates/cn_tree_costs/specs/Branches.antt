@@ -1,9 +1,11 @@
--- Trees joined at a new root. New here.
+-- The trees below a root. New here.
 use Rattle.std.specs.Prelude.{ℕ, ◌+◌, ◌*◌, max, Bool, List, [], ◌∷◌, map, sum, Option, None, Some}
 use Rattle.cn_table.specs.TypeTable.{TypeTable}
 use Rattle.cn_meetings.specs.Meeting.{Sight}
-use Rattle.cn_trees.specs.Tree.{PlanTree, processes_of}
+use Rattle.cn_trees.specs.Tree.{PlanTree, Teams, nodes_in, processes_of}
+use Rattle.cn_trees.specs.Tree.Teams.{Alone, Last, Meet}
 use Rattle.cn_tree_costs.specs.Cost.{Cost, IsTreeFor, cost}
+use Rattle.cn_tree_costs.specs.Nodes.{tree_at}
 use Rattle.cn_tree_costs.specs.Sizes.{price}
 
 -- a team at the root: the processes of a tree, or, if there is none, one process
@@ -25,6 +27,15 @@ AreBranches t allowed [] = Unit {0}
 AreBranches t allowed (None ∷ branches) = AreBranches t allowed branches
 AreBranches t allowed (Some T ∷ branches) = IsTreeFor t allowed (processes_of T) T
     × AreBranches t allowed branches
+
+-- the trees of these teams at the root of a tree; the first node below them has this number
+abbrev pub branches_from : PlanTree → Teams → ℕ → List Branch
+branches_from T Last v = []
+branches_from T (Alone r) v = None ∷ branches_from T r v
+branches_from T (Meet s r) v = Some (tree_at T v) ∷ branches_from T r (v + 1 + nodes_in s)
+
+abbrev pub branches_of : PlanTree → List Branch
+branches_of T = branches_from T T.teams 1
 
 -- the greatest number of steps, the objects and the sum of all of them
 abbrev pub greatest_steps : List Branch → ℕ

@@ -9,12 +9,12 @@ ghost use Rattle.cn_meetings.specs.Examples.{compare_and_swap};
 ghost use Rattle.cn_meetings.specs.Meeting.{IsSightOf, Meeting, Sight};
 ghost use Rattle.cn_meetings.specs.Meeting.Sight.{State};
 ghost use Rattle.cn_meetings.specs.Witness.{Has, IsTeamWitness};
-ghost use Rattle.cn_trees.specs.Consensus.{steps_of};
 ghost use Rattle.cn_trees.specs.Examples.{one_compare_and_swap};
 ghost use Rattle.cn_trees.specs.Seats.{HasRoles};
-ghost use Rattle.cn_trees.specs.Tree.{PlanTree, Teams, comes_to, members, processes_of, team_in};
-ghost use Rattle.cn_tree_costs.specs.Branches.{AreBranches, Branch, joined_cost, size_of};
-ghost use Rattle.cn_tree_costs.specs.Cost.{Cost, IsLeastPlan, IsTreeFor, cost};
+ghost use Rattle.cn_trees.specs.Tree.{PlanTree, Teams, comes_to, members, team_in};
+ghost use Rattle.cn_tree_costs.specs.Branches.{AreBranches, Branch, branches_of, joined_cost};
+ghost use Rattle.cn_tree_costs.specs.Branches.{size_of};
+ghost use Rattle.cn_tree_costs.specs.Cost.{IsLeastPlan, IsTreeFor, cost};
 ghost use Rattle.cn_tree_costs.specs.Least.{AreRoots, IsAtMost, IsLoadTable, Load, LoadTable, Root};
 ghost use Rattle.cn_tree_costs.specs.Nodes.{IsAmong, node_at, tree_at};
 ghost use Rattle.cn_tree_costs.specs.Outline.{AreGroups, Outline, groups_in, members_in, steps_in};
@@ -49,14 +49,22 @@ pub fn nodes_are_trees()
         → HasSizes t ((T.meeting v).sight p) (sizes_of (node_at T.teams v).teams) }
 {}
 
-/// Trees make a tree. New here.
+/// A tree is a root with a tree for each team of it, or a process alone. New here.
 ///
-/// - `joined`: a witness with teams of these sizes, and a tree for each team or a process alone, make
-///   a tree. It costs the price of the root and the greatest number of steps of the trees; one node
-///   and those of the trees; and the price of the root for each process, and the sums of the trees;
+/// - `split`: the trees of the teams of the root are trees of witnesses, with as many processes as the
+///   teams have, and the root has a witness with teams of these sizes. The tree costs the price of the
+///   root and the greatest number of steps of the trees; one node and those of the trees; and the price
+///   of the root for each process, and the sums of the trees;
+/// - `joined`: a witness, and a tree or a process alone for each team, make a tree, at this cost;
 /// - `from_nodes`: a witness for each node that has a process, with teams of its sizes, makes a tree
 ///   with these teams, whose processes look as those of the witnesses.
 pub fn trees_are_joined()
+    // promise: trees-are-joined (branches_of)
+    ensures split { (t : TypeTable) (allowed : Sight → Bool) (n : ℕ) (T : PlanTree) → 1 ≤ n
+        → IsTreeFor t allowed n T → AreBranches t allowed (branches_of T)
+        × (map size_of (branches_of T) ≡ sizes_of T.teams)
+        × (sight : Sight) × (allowed sight ≡ true) × HasSizes t sight (sizes_of T.teams)
+        × (cost T ≡ joined_cost sight (branches_of T)) }
     // promise: trees-are-joined (joined_cost)
     ensures joined { (t : TypeTable) (allowed : Sight → Bool) (sight : Sight)
         (branches : List Branch) → allowed sight ≡ true → HasSizes t sight (map size_of branches)
