@@ -1,6 +1,7 @@
+mod FewTeams
 mod Growing
 mod Numbers
-mod OneNode
+mod LeastExamples
 mod Outlines
 mod Joining
 mod NodesOf

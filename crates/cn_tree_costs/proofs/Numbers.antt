@@ -69,7 +69,7 @@ greatest_plus f c (suc n) some = elim (cases_eq n 0) [
 ]
 
 -- ---- sizes of several teams
-long_sum : (sizes : List ℕ) → All (λ m. 1 ≤ m) sizes → length sizes ≤ sum sizes
+pub long_sum : (sizes : List ℕ) → All (λ m. 1 ≤ m) sizes → length sizes ≤ sum sizes
 long_sum [] each = omega arith
 long_sum (a ∷ sizes) each =
     let h : 1 ≤ a = All-head (λ m. 1 ≤ m) a sizes each in

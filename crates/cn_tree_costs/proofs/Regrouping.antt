@@ -17,11 +17,11 @@ use Rattle.cn_tree_costs.specs.Sizes.{HasSizes, block}
 use Rattle.cn_tree_costs.proofs.Numbers.{block_in, block_out, sum_cons}
 use Rattle.cn_tree_costs.proofs.Witnesses.{same_teams}
 
-abbrev size_at : List ℕ → ℕ → ℕ
+abbrev pub size_at : List ℕ → ℕ → ℕ
 size_at sizes g = slice_index_or sizes g 0
 
 -- the first process of a team
-abbrev start_of : List ℕ → ℕ → ℕ
+abbrev pub start_of : List ℕ → ℕ → ℕ
 start_of [] g = 0
 start_of (m ∷ sizes) zero = 0
 start_of (m ∷ sizes) (suc g) = m + start_of sizes g
@@ -31,7 +31,7 @@ abbrev seat : List ℕ → ℕ → ℕ
 seat [] p = p
 seat (m ∷ sizes) p = if nat_lt p m then p else seat sizes (p - m)
 
-placed : (sizes : List ℕ) (g i : ℕ) → i < size_at sizes g → (block sizes (start_of sizes g + i) ≡ g) × (start_of sizes g + i < sum sizes)
+pub placed : (sizes : List ℕ) (g i : ℕ) → i < size_at sizes g → (block sizes (start_of sizes g + i) ≡ g) × (start_of sizes g + i < sum sizes)
 placed [] g i lt = absurd (omega arith)
 placed (m ∷ sizes) zero i lt = (block_in m (0 + i) sizes (omega arith), omega (arith, sum_cons m sizes))
 placed (m ∷ sizes) (suc g) i lt =

@@ -5,11 +5,12 @@ ghost use Rattle.std.specs.Prelude.{ℕ, List, ◌≡◌, ◌↔◌, Bool, ◌+�
 ghost use Rattle.std.specs.Prelude.{◌∷◌, length, map, sum, slice_index_or, true, IsPermutation};
 ghost use Rattle.std.specs.Option.{IsSome};
 ghost use Rattle.cn_table.specs.TypeTable.{TypeTable};
-ghost use Rattle.cn_meetings.specs.Examples.{compare_and_swap};
+ghost use Rattle.cn_meetings.specs.Examples.{compare_and_swap, sticky_bit};
 ghost use Rattle.cn_meetings.specs.Meeting.{IsSightOf, Meeting, Sight};
 ghost use Rattle.cn_meetings.specs.Meeting.Sight.{State};
 ghost use Rattle.cn_meetings.specs.Witness.{Has, IsTeamWitness};
-ghost use Rattle.cn_trees.specs.Examples.{one_compare_and_swap};
+ghost use Rattle.cn_trees.specs.Examples.{four_of_a_sticky_bit, one_compare_and_swap};
+ghost use Rattle.cn_trees.specs.FullTrees.{power};
 ghost use Rattle.cn_trees.specs.Seats.{HasRoles};
 ghost use Rattle.cn_trees.specs.Tree.{PlanTree, Teams, comes_to, members, team_in};
 ghost use Rattle.cn_tree_costs.specs.Branches.{AreBranches, Branch, branches_of, joined_cost};
@@ -20,11 +21,12 @@ ghost use Rattle.cn_tree_costs.specs.Nodes.{IsAmong, node_at, tree_at};
 ghost use Rattle.cn_tree_costs.specs.Outline.{AreGroups, Outline, groups_in, members_in, steps_in};
 ghost use Rattle.cn_tree_costs.specs.Outline.{sum_in};
 ghost use Rattle.cn_tree_costs.specs.Outline.Outline.{End, Group};
-ghost use Rattle.cn_tree_costs.specs.Sizes.{HasSizes, block, price, sizes_of};
+ghost use Rattle.cn_tree_costs.specs.Sizes.{HasSizes, IsDivision, block, price, sizes_of};
 
 use cn_meetings::laws::examples_are_of_types;
 use cn_trees::laws::{
-    one_node_of_compare_and_swap, parting_operations_make_plan_trees, witnesses_make_plan_trees,
+    four_processes_of_a_sticky_bit, one_node_of_compare_and_swap,
+    parting_operations_make_plan_trees, witnesses_make_plan_trees,
 };
 
 /// The nodes of a plan tree are trees again. New here.
@@ -184,18 +186,38 @@ pub fn sizes_are_kept()
         → HasSizes t State sizes }
 {}
 
+/// Lower bounds, for trees of this kind. Other protocols may do with fewer steps.
+///
+/// - `teams`: a witness for three processes or more has at most a team for each operation;
+/// - `steps`: so in a tree of a type with k operations, two or more, for more than k to the power of h
+///   processes, some process takes 3(h + 1) own steps or more.
+pub fn operations_bound_steps()
+    // promise: operations-bound-steps
+    ensures teams { (t : TypeTable) (sight : Sight) (n : ℕ) (sizes : List ℕ)
+        → HasSizes t sight sizes → IsDivision n sizes → 3 ≤ n
+        → length sizes ≤ length t.operations }
+    // promise: operations-bound-steps (power)
+    ensures steps { (t : TypeTable) (allowed : Sight → Bool) (n h : ℕ) (T : PlanTree)
+        → 2 ≤ length t.operations → 2 ≤ n → IsTreeFor t allowed n T
+        → power (length t.operations) h < n → 3 * (h + 1) ≤ (cost T).steps }
+{}
+
 /// A tree of one node at which nobody looks is least: three steps, one object. So compare-and-swap
-/// from one value to k others has a least plan of one node for k processes.
-pub fn one_node_is_least()
-    // promise: one-node-is-least
+/// from one value to k others has a least plan of one node for k processes. The balanced tree of three
+/// sticky bits is a least plan of a sticky bit for four processes.
+pub fn examples_are_least()
+    // promise: examples-are-least
     ensures one_node { (t : TypeTable) (allowed : Sight → Bool) (n : ℕ) (T : PlanTree) → 2 ≤ n
         → IsTreeFor t allowed n T → cost T ≡ record { steps = 3; nodes = 1; sum = n * 3 }
         → IsLeastPlan t allowed n T }
-    // promise: one-node-is-least (IsLeastPlan)
+    // promise: examples-are-least (IsLeastPlan)
     ensures compare_and_swap { (k : ℕ) → 2 ≤ k
         → IsLeastPlan (compare_and_swap k) (λ sight. true) k (one_compare_and_swap k) }
+    // promise: examples-are-least
+    ensures sticky_bit { IsLeastPlan sticky_bit (λ sight. true) 4 four_of_a_sticky_bit }
 {
     examples_are_of_types();
+    four_processes_of_a_sticky_bit();
     one_node_of_compare_and_swap();
     parting_operations_make_plan_trees();
     witnesses_make_plan_trees();
