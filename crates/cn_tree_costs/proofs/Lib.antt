@@ -1,3 +1,4 @@
+mod Counted
 mod FewTeams
 mod Growing
 mod Numbers

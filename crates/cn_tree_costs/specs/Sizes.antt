@@ -1,6 +1,7 @@
 -- The sizes of the teams of a witness. New here.
 use Rattle.std.specs.Prelude.{ℕ, ◌≡◌, ◌-◌, ◌<◌, ◌≤◌, List, [], ◌∷◌, length, sum, All, suc, nat_lt}
-use Rattle.std.specs.Prelude.{if◌then◌else◌}
+use Rattle.std.specs.Prelude.{if◌then◌else◌, ◌+◌, map, nat_eq, zero}
+use Rattle.std.specs.List.{range_with_len}
 use Rattle.cn_table.specs.TypeTable.{TypeTable}
 use Rattle.cn_meetings.specs.Meeting.{IsSightOf, Meeting, Sight, looks}
 use Rattle.cn_meetings.specs.Witness.{IsTeamWitness}
@@ -18,6 +19,15 @@ abbrev pub sizes_of : Teams → List ℕ
 sizes_of Last = []
 sizes_of (Alone r) = 1 ∷ sizes_of r
 sizes_of (Meet s r) = members s ∷ sizes_of r
+
+-- how many of the first n processes are in team g
+abbrev pub team_size : (ℕ → ℕ) → ℕ → ℕ → ℕ
+team_size team zero g = 0
+team_size team (suc n) g = team_size team n g + (if nat_eq (team n) g then 1 else 0)
+
+-- the sizes of the first k teams of the first n processes
+abbrev pub team_sizes : (ℕ → ℕ) → ℕ → ℕ → List ℕ
+team_sizes team n k = map (team_size team n) (range_with_len 0 k)
 
 -- some meeting of the type, at which all processes look in this way, has a witness with teams of
 -- these sizes

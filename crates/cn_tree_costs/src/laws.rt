@@ -2,7 +2,7 @@
 //!
 //! Everywhere `allowed` are the ways to look that a tree may use at its nodes.
 ghost use Rattle.std.specs.Prelude.{ℕ, List, ◌≡◌, ◌↔◌, Bool, ◌+◌, ◌-◌, ◌*◌, ◌<◌, ◌≤◌, Some, None};
-ghost use Rattle.std.specs.Prelude.{◌∷◌, length, map, sum, slice_index_or, true, IsPermutation};
+ghost use Rattle.std.specs.Prelude.{◌∷◌, length, map, nat_lt, sum, slice_index_or, true, IsPermutation};
 ghost use Rattle.std.specs.Option.{IsSome};
 ghost use Rattle.cn_table.specs.TypeTable.{TypeTable};
 ghost use Rattle.cn_meetings.specs.Examples.{compare_and_swap, sticky_bit};
@@ -22,6 +22,7 @@ ghost use Rattle.cn_tree_costs.specs.Outline.{AreGroups, Outline, groups_in, mem
 ghost use Rattle.cn_tree_costs.specs.Outline.{sum_in};
 ghost use Rattle.cn_tree_costs.specs.Outline.Outline.{End, Group};
 ghost use Rattle.cn_tree_costs.specs.Sizes.{HasSizes, IsDivision, block, price, sizes_of};
+ghost use Rattle.cn_tree_costs.specs.Sizes.{team_sizes};
 
 use cn_meetings::laws::examples_are_of_types;
 use cn_trees::laws::{
@@ -157,12 +158,22 @@ pub fn loads_are_least_costs()
 
 /// What keeps the sizes of a witness:
 ///
+/// - `counted`, `all_counted`: a witness for n processes has the sizes of its teams, however its
+///   processes are numbered;
 /// - `any_numbers`: a witness with roles for teams of these sizes has them;
 /// - `any_order`: and in any order;
 /// - `merged`: merging two teams keeps a witness;
 /// - `smaller`: so does leaving out processes, of any teams;
 /// - `read`: and so does a read by each process.
 pub fn sizes_are_kept()
+    // promise: sizes-are-kept (team_sizes)
+    ensures counted { (t : TypeTable) (sight : Sight) (M : Meeting) (n k : ℕ) (team : ℕ → ℕ)
+        → M.start < length t.states → ((p : ℕ) → p < n → M.operation p < length t.operations)
+        → ((p : ℕ) → p < n → M.sight p ≡ sight) → IsSightOf t sight
+        → IsTeamWitness t M (λ p. nat_lt p n) team → HasSizes t sight (team_sizes team n k) }
+    // promise: sizes-are-kept
+    ensures all_counted { (team : ℕ → ℕ) (n k : ℕ) → ((p : ℕ) → p < n → team p < k)
+        → sum (team_sizes team n k) ≡ n }
     // promise: sizes-are-kept (HasRoles)
     ensures any_numbers { (t : TypeTable) (sight : Sight) (M : Meeting) (processes : ℕ → Bool)
         (team : ℕ → ℕ) (sizes : List ℕ) (role : ℕ → ℕ → ℕ)
