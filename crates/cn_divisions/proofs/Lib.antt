@@ -1,0 +1,11 @@
+pub mod Counting
+pub mod Extending
+pub mod Finding
+pub mod Known
+pub mod Links
+pub mod Looks
+pub mod Merging
+pub mod ProcessTeams
+pub mod SameSizes
+pub mod Splitting
+pub mod Twins

@@ -1,0 +1,20 @@
+use Rattle.std.proofs.Common.{ℕ, ◌≡◌, ◌+◌, ◌-◌, arith, subst}
+use Rattle.cn_stocks.specs.Each.{EachAt}
+use Rattle.cn_stocks.proofs.EachLemmas.{each_push}
+use Rattle.cn_divisions.specs.declared.search.Divisions.{Divisions}
+use Rattle.cn_divisions.specs.Divisions.{AreDivisions}
+use Rattle.cn_divisions.proofs.search.find_divisions.Goals as goal
+
+pub loop-n-preserved : goal.loop-n-preserved
+loop-n-preserved c =
+    let t = c.args.table.now in
+    let n = c.loop-n.n in
+    let at : n + 1 ≡ n - 1 + 2 = omega (arith, c.loop-n.auto.n) in
+    let count : n - 1 + 1 ≡ n + 1 - 1 = omega (arith, c.loop-n.auto.n) in
+    let fit : ℕ → Divisions → Type 0 = λ i d. AreDivisions t (i + 2) d in
+    record {
+      search_is = c.in_ok-search-3.ensures;
+      starts_are = c.in_ok-here.ensures.starts;
+      each = subst (λ (k : ℕ). EachAt fit k c.push.new.self.items) count
+          (each_push fit c.loop-n.all.items c.push.new.self.items c.in_ok-here.here.0 (n - 1) c.in_ok-push.ensures.items c.loop-n.invariant.each (subst (λ (k : ℕ). AreDivisions t k c.in_ok-here.here.0) at c.in_ok-here.ensures.divisions));
+    }
