@@ -1,12 +1,12 @@
 -- Stocks whose operations are in different components.
-use Rattle.std.proofs.Common.{ℕ, ◌≡◌, ◌≢◌, ◌≤◌, List, ◌∷◌, length, arith, refl, sym, subst}
+use Rattle.std.proofs.Common.{ℕ, ◌≢◌, ◌≤◌, List, ◌∷◌, length, arith, subst}
 use Rattle.cn_table.specs.TypeTable.{TypeTable}
 use Rattle.cn_meetings.specs.Meeting.{Sight}
-use Rattle.cn_stocks.specs.Words.{HaveSame, Shows, times}
+use Rattle.cn_stocks.specs.Words.{HaveSame}
 use Rattle.cn_stocks.proofs.Fewer.{beside}
 use Rattle.cn_stocks.proofs.Steps.{shows_same}
-use Rattle.cn_stocks.proofs.Times.{same_rest, same_sym, times_cons}
-use Rattle.cn_divisions.specs.Joins.{AreConnected, AreJoined, IsSplit, Tells}
+use Rattle.cn_stocks.proofs.Times.{same_sym, times_cons}
+use Rattle.cn_divisions.specs.Joins.{AreConnected, IsSplit, Tells}
 use Rattle.cn_divisions.specs.Joins.AreConnected.{ByWayOf, Itself}
 
 module _ (t : TypeTable) (sight : Sight) (start : ℕ) where

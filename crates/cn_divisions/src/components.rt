@@ -1,6 +1,7 @@
 //! The teams of a stock: operations that are joined, or connected by others that are.
-ghost use Rattle.std.specs.Prelude.{◌≡◌, ◌≢◌, ◌<◌, ◌+◌, ℕ, length, slice_index};
-ghost use Rattle.cn_divisions.specs.Joins.{AreComponents, AreComponentsSoFar, IsMerged};
+ghost use Rattle.std.specs.Prelude.{◌≡◌, ◌≢◌, ◌<◌, ◌+◌, ℕ, length, slice_index, IsTrue};
+ghost use Rattle.cn_meetings.specs.Meeting.{Sight as SightOf};
+ghost use Rattle.cn_divisions.specs.Joins.{AreComponents, AreComponentsSoFar, AreJoined, IsMerged};
 ghost use Rattle.cn_divisions.specs.Levels.{IsSetting};
 ghost use Rattle.cn_divisions.specs.Sights.{sight_of};
 
@@ -37,6 +38,25 @@ fn merged(teams: &Teams, f: u8, g: u8) -> Teams
     merged
 }
 
+/// Whether it is to be seen if the two operations are joined: the stock has both, and they are not
+/// in one team yet.
+fn is_open(setting: &Setting<'_>, teams: &Teams, f: u8, g: u8) -> bool
+    requires setting { IsSetting setting.now }
+    requires f { f < MOST_OPERATIONS }
+    requires g { g < MOST_OPERATIONS }
+    ensures { (sight : SightOf) (start : ℕ) → ¬ IsTrue result → AreJoined setting.now.table.now sight
+        start setting.now.stock.now.operations.items f g
+        → slice_index teams.now f ≡ slice_index teams.now g }
+{
+    if !setting.stock.has(f) {
+        return false;
+    }
+    if !setting.stock.has(g) {
+        return false;
+    }
+    teams[f as usize] != teams[g as usize]
+}
+
 /// The teams where that of the operation and those of the lower operations which are joined with it
 /// become one.
 fn with_joined(setting: &Setting<'_>, sight: Sight, start: u8, teams: &Teams, g: u8) -> Teams
@@ -51,7 +71,7 @@ fn with_joined(setting: &Setting<'_>, sight: Sight, start: u8, teams: &Teams, g:
     let _operations = setting.table.operations();
     let mut merging = *teams;
     for f in 0..g {
-        if merging[f as usize] != merging[g as usize] && are_joined(setting, sight, start, f, g) {
+        if is_open(setting, &merging, f, g) && are_joined(setting, sight, start, f, g) {
             merging = merged(&merging, f, g);
         }
     }

@@ -1,4 +1,22 @@
-//! The divisions of the processes that meet at one object: the sizes of their teams.
+//! The finest divisions of processes that meet at one object, by their sizes.
+//!
+//! Where processes do one operation each, two are *joined* if some process cannot tell which of
+//! them came first. Joined processes are in one team, so the components are the finest division, and
+//! each division in which every process can tell the first team has whole teams of it
+//! ([`laws::finest_divisions_are_witnesses`]). [`find_divisions`] answers for each number of
+//! processes all sizes that such divisions of a type have, with an example of each: where processes
+//! read the state behind their operation, and where they do not look.
+//!
+//! It goes over stocks, lists of operations ([`cn_stocks`]): from three processes on those with one
+//! operation are in one team ([`laws::divisions_are_of_operations`]).
+//!
+//! ```text
+//! for divisions in &find_divisions(alloc, &table, 8)? {
+//!     for division in &divisions.nothing {
+//!         println!(rt; "{:?}", division.sizes.as_slice())?;
+//!     }
+//! }
+//! ```
 #![tactic(auto)]
 
 mod components;
@@ -16,5 +34,4 @@ mod word_sets;
 
 pub use divisions::Division;
 pub use search::{Divisions, find_divisions};
-pub use sights::Sight;
 pub use sizes::Numbers;

@@ -180,13 +180,7 @@ impl Search {
     }
 
     /// The search at the stocks of one operation more; these have n, and these start states.
-    fn next(
-        self,
-        alloc: Global,
-        table: &Table,
-        n: u8,
-        starts: Starts,
-    ) -> Result<Search, AllocError>
+    fn next(self, alloc: Global, table: &Table, n: u8, starts: Starts) -> Result<Search, AllocError>
         requires search { IsSearch table.now n self }
         requires starts { AreAllStarts table.now self.stocks.list.items starts }
         requires short { n < MOST_PROCESSES }

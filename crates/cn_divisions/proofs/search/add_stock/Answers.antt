@@ -1,4 +1,4 @@
-use Rattle.std.proofs.Common.{ℕ, ◌≡◌, ◌+◌, ◌<◌, ◌∙◌, Global, inl, inr, arith, length, subst, sym, true≢false}
+use Rattle.std.proofs.Common.{ℕ, ◌+◌, ◌∙◌, Global, inl, inr, arith, subst, sym, true≢false}
 use Rattle.std.specs.declared.vec.Vec.{Vec}
 use Rattle.std.specs.Prelude.{IsBitSet, IsSome}
 use Rattle.cn_outcomes.proofs.Packing.{below_or_last}

@@ -1,4 +1,4 @@
-use Rattle.std.proofs.Common.{ℕ, List, ◌≡◌, ◌<◌, inl, inr, arith, get_or, length, subst, sym, ap, ◌∙◌}
+use Rattle.std.proofs.Common.{ℕ, List, ◌<◌, inl, inr, arith, get_or, length, subst, sym, ap}
 use Rattle.std.specs.Prelude.{IsBitSet}
 use Rattle.std.proofs.lemmas.Option.{slice_get-get_or}
 use Rattle.cn_outcomes.proofs.Packing.{below_or_last}
