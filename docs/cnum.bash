@@ -5,7 +5,7 @@ _cnum() {
     COMPREPLY=()
     case ${COMP_WORDS[1]} in
     find)
-        options='--limit --table -h --help' arguments='FILE'
+        options='--limit --without-read --table -h --help' arguments='FILE'
         [[ $previous == --limit ]] && values='2 3 4 5 6 7 8'
         ;;
     classify)
@@ -18,7 +18,7 @@ _cnum() {
         [[ $previous == --as ]] && values='text json'
         ;;
     check)
-        options='--as --table -h --help' arguments='CERT FILE'
+        options='--without-read --as --table -h --help' arguments='CERT FILE'
         [[ $previous == --as ]] && values='text json'
         ;;
     explain)

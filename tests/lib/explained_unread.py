@@ -83,7 +83,7 @@ def followed_faults(table, choice, witness):
         yield from (f"process {process}: {it}" for it in view_faults(table, told, [{(got[0], got[1:]) for place, got in it if place == process} for it in found]))
         for sight in told["a_first"] + told["b_first"]:
             key = table.operations.index(told["operation"]), "AB".index(told["team"]), table.responses.index(sight["response"])
-            if [table.operations.index(it["operation"]) for it in sight["answers"]] != [further[key]] * (key in further):
+            if [table.operations.index(it["operation"]) for it in sight["answers"]] != [it for it in [further.get(key)] if it is not None]:
                 yield f"process {process}: {sight} has another further operation"
 
 

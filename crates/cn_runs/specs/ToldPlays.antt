@@ -120,12 +120,12 @@ plays_of_queue_2 =
     two_runs 0 (0 ∷ []) (0 ∷ 1 ∷ []) 2
     (step_of 0 0 0 1 ∷ [])
     (step_of 1 0 0 1 ∷ []) ∷
-    two_runs 0 (0 ∷ []) (1 ∷ 1 ∷ []) 1
-    (step_of 0 0 0 1 ∷ step_of 2 1 0 4 ∷ step_of 2 2 3 2 ∷ step_of 1 1 0 6 ∷ [])
-    (step_of 1 1 0 2 ∷ step_of 2 1 0 6 ∷ []) ∷
-    two_runs 0 (1 ∷ []) (0 ∷ 0 ∷ []) 0
-    (step_of 0 1 0 2 ∷ step_of 1 0 0 5 ∷ step_of 1 2 4 1 ∷ step_of 0 2 3 0 ∷ [])
-    (step_of 1 0 0 1 ∷ step_of 0 1 0 4 ∷ step_of 0 2 3 2 ∷ step_of 1 2 4 0 ∷ []) ∷
+    two_runs 0 (0 ∷ []) (1 ∷ 1 ∷ []) 2
+    (step_of 0 0 0 1 ∷ step_of 2 1 0 4 ∷ [])
+    (step_of 1 1 0 2 ∷ step_of 0 0 0 5 ∷ step_of 0 2 4 1 ∷ step_of 2 1 0 4 ∷ []) ∷
+    two_runs 0 (1 ∷ []) (0 ∷ 0 ∷ []) 2
+    (step_of 0 1 0 2 ∷ step_of 1 0 0 5 ∷ step_of 1 2 4 1 ∷ step_of 2 0 0 3 ∷ [])
+    (step_of 1 0 0 1 ∷ step_of 2 0 0 3 ∷ []) ∷
     two_runs 0 (1 ∷ []) (0 ∷ 1 ∷ []) 1
     (step_of 0 1 0 2 ∷ [])
     (step_of 2 1 0 2 ∷ []) ∷
@@ -147,40 +147,41 @@ plays_of_queue_2 =
     two_runs 1 (0 ∷ []) (1 ∷ 2 ∷ []) 1
     (step_of 0 0 0 3 ∷ step_of 2 2 3 1 ∷ step_of 1 1 0 4 ∷ [])
     (step_of 1 1 0 4 ∷ []) ∷
-    two_runs 1 (0 ∷ []) (2 ∷ 2 ∷ []) 0
-    (step_of 0 0 0 3 ∷ step_of 1 2 3 1 ∷ [])
+    two_runs 1 (0 ∷ []) (2 ∷ 2 ∷ []) 2
+    (step_of 0 0 0 3 ∷ step_of 0 2 3 1 ∷ [])
     (step_of 1 2 3 0 ∷ step_of 0 0 0 1 ∷ []) ∷
-    two_runs 1 (1 ∷ []) (0 ∷ 0 ∷ []) 1
+    two_runs 1 (1 ∷ []) (0 ∷ 0 ∷ []) 2
     (step_of 0 1 0 4 ∷ step_of 2 0 1 4 ∷ step_of 2 2 3 2 ∷ step_of 1 0 0 5 ∷
-    step_of 2 2 4 1 ∷ [])
-    (step_of 1 0 0 3 ∷ step_of 2 0 1 3 ∷ step_of 2 2 3 1 ∷ []) ∷
+    step_of 1 2 4 1 ∷ step_of 2 0 0 3 ∷ [])
+    (step_of 1 0 0 3 ∷ step_of 2 0 1 3 ∷ step_of 2 2 3 1 ∷ step_of 2 0 0 3 ∷ []) ∷
     two_runs 1 (1 ∷ []) (0 ∷ 1 ∷ []) 1
     (step_of 0 1 0 4 ∷ [])
     (step_of 2 1 0 4 ∷ []) ∷
-    two_runs 1 (1 ∷ []) (0 ∷ 2 ∷ []) 0
-    (step_of 0 1 0 4 ∷ step_of 2 2 3 2 ∷ [])
-    (step_of 2 2 3 0 ∷ step_of 0 1 0 2 ∷ []) ∷
+    two_runs 1 (1 ∷ []) (0 ∷ 2 ∷ []) 2
+    (step_of 0 1 0 4 ∷ step_of 2 2 3 2 ∷ step_of 1 0 0 5 ∷ step_of 1 2 4 1 ∷
+    step_of 2 0 0 3 ∷ [])
+    (step_of 1 0 0 3 ∷ step_of 2 2 3 1 ∷ step_of 2 0 0 3 ∷ []) ∷
     two_runs 1 (1 ∷ []) (1 ∷ 1 ∷ []) 2
     (step_of 0 1 0 4 ∷ [])
     (step_of 1 1 0 4 ∷ []) ∷
     two_runs 1 (1 ∷ []) (1 ∷ 2 ∷ []) 2
     (step_of 0 1 0 4 ∷ [])
     (step_of 1 1 0 4 ∷ []) ∷
-    two_runs 1 (1 ∷ []) (2 ∷ 2 ∷ []) 0
-    (step_of 0 1 0 4 ∷ step_of 1 2 3 2 ∷ [])
+    two_runs 1 (1 ∷ []) (2 ∷ 2 ∷ []) 2
+    (step_of 0 1 0 4 ∷ step_of 0 2 3 2 ∷ [])
     (step_of 1 2 3 0 ∷ step_of 0 1 0 2 ∷ []) ∷
-    two_runs 1 (2 ∷ []) (0 ∷ 0 ∷ []) 0
-    (step_of 0 2 3 0 ∷ step_of 1 0 0 1 ∷ [])
-    (step_of 1 0 0 3 ∷ step_of 0 2 3 1 ∷ []) ∷
-    two_runs 1 (2 ∷ []) (0 ∷ 1 ∷ []) 0
-    (step_of 0 2 3 0 ∷ step_of 1 0 0 1 ∷ [])
-    (step_of 1 0 0 3 ∷ step_of 0 2 3 1 ∷ []) ∷
+    two_runs 1 (2 ∷ []) (0 ∷ 0 ∷ []) 2
+    (step_of 0 2 3 0 ∷ step_of 1 0 0 1 ∷ step_of 1 0 0 3 ∷ [])
+    (step_of 1 0 0 3 ∷ []) ∷
+    two_runs 1 (2 ∷ []) (0 ∷ 1 ∷ []) 2
+    (step_of 0 2 3 0 ∷ step_of 1 0 0 1 ∷ step_of 1 0 0 3 ∷ [])
+    (step_of 1 0 0 3 ∷ []) ∷
     two_runs 1 (2 ∷ []) (0 ∷ 2 ∷ []) 1
     (step_of 0 2 3 0 ∷ [])
     (step_of 2 2 3 0 ∷ []) ∷
-    two_runs 1 (2 ∷ []) (1 ∷ 1 ∷ []) 0
-    (step_of 0 2 3 0 ∷ step_of 1 1 0 2 ∷ [])
-    (step_of 1 1 0 4 ∷ step_of 0 2 3 2 ∷ []) ∷
+    two_runs 1 (2 ∷ []) (1 ∷ 1 ∷ []) 2
+    (step_of 0 2 3 0 ∷ step_of 1 1 0 2 ∷ step_of 2 1 0 6 ∷ [])
+    (step_of 1 1 0 4 ∷ step_of 1 2 3 2 ∷ step_of 2 1 0 6 ∷ []) ∷
     two_runs 1 (2 ∷ []) (1 ∷ 2 ∷ []) 1
     (step_of 0 2 3 0 ∷ [])
     (step_of 2 2 3 0 ∷ []) ∷
@@ -198,46 +199,45 @@ plays_of_queue_2 =
     (step_of 1 0 0 5 ∷ []) ∷
     two_runs 2 (0 ∷ []) (1 ∷ 1 ∷ []) 2
     (step_of 0 0 0 5 ∷ step_of 2 1 1 5 ∷ step_of 2 2 4 1 ∷ step_of 1 1 0 4 ∷
-    step_of 1 2 3 2 ∷ [])
-    (step_of 1 1 0 6 ∷ step_of 2 1 1 6 ∷ step_of 2 2 4 2 ∷ []) ∷
-    two_runs 2 (0 ∷ []) (1 ∷ 2 ∷ []) 0
-    (step_of 0 0 0 5 ∷ step_of 2 2 4 1 ∷ [])
-    (step_of 2 2 4 0 ∷ step_of 0 0 0 1 ∷ []) ∷
-    two_runs 2 (0 ∷ []) (2 ∷ 2 ∷ []) 0
-    (step_of 0 0 0 5 ∷ step_of 1 2 4 1 ∷ [])
-    (step_of 1 2 4 0 ∷ step_of 0 0 0 1 ∷ []) ∷
-    two_runs 2 (1 ∷ []) (0 ∷ 0 ∷ []) 0
-    (step_of 0 1 0 6 ∷ step_of 2 0 1 6 ∷ step_of 2 2 4 2 ∷ step_of 1 0 0 5 ∷
-    step_of 1 2 4 1 ∷ step_of 0 2 3 0 ∷ [])
-    (step_of 1 0 0 5 ∷ step_of 2 0 1 5 ∷ step_of 2 2 4 1 ∷ step_of 0 1 0 4 ∷
-    step_of 0 2 3 2 ∷ step_of 1 2 4 0 ∷ []) ∷
+    step_of 1 2 3 2 ∷ step_of 2 0 0 5 ∷ [])
+    (step_of 1 1 0 6 ∷ step_of 2 1 1 6 ∷ step_of 2 2 4 2 ∷ step_of 2 0 0 5 ∷ []) ∷
+    two_runs 2 (0 ∷ []) (1 ∷ 2 ∷ []) 2
+    (step_of 0 0 0 5 ∷ step_of 2 2 4 1 ∷ step_of 1 1 0 4 ∷ step_of 1 2 3 2 ∷
+    step_of 2 0 0 5 ∷ [])
+    (step_of 1 1 0 6 ∷ step_of 2 2 4 2 ∷ step_of 2 0 0 5 ∷ []) ∷
+    two_runs 2 (0 ∷ []) (2 ∷ 2 ∷ []) 2
+    (step_of 0 0 0 5 ∷ step_of 1 2 4 1 ∷ step_of 1 2 3 0 ∷ [])
+    (step_of 1 2 4 0 ∷ []) ∷
+    two_runs 2 (1 ∷ []) (0 ∷ 0 ∷ []) 1
+    (step_of 0 1 0 6 ∷ step_of 2 0 1 6 ∷ step_of 2 2 4 2 ∷ step_of 1 0 0 5 ∷ [])
+    (step_of 1 0 0 5 ∷ step_of 2 0 1 5 ∷ []) ∷
     two_runs 2 (1 ∷ []) (0 ∷ 1 ∷ []) 1
     (step_of 0 1 0 6 ∷ [])
     (step_of 2 1 0 6 ∷ []) ∷
-    two_runs 2 (1 ∷ []) (0 ∷ 2 ∷ []) 0
-    (step_of 0 1 0 6 ∷ step_of 2 2 4 2 ∷ [])
-    (step_of 2 2 4 0 ∷ step_of 0 1 0 2 ∷ []) ∷
+    two_runs 2 (1 ∷ []) (0 ∷ 2 ∷ []) 1
+    (step_of 0 1 0 6 ∷ step_of 2 2 4 2 ∷ step_of 1 0 0 5 ∷ [])
+    (step_of 1 0 0 5 ∷ []) ∷
     two_runs 2 (1 ∷ []) (1 ∷ 1 ∷ []) 2
     (step_of 0 1 0 6 ∷ [])
     (step_of 1 1 0 6 ∷ []) ∷
     two_runs 2 (1 ∷ []) (1 ∷ 2 ∷ []) 2
     (step_of 0 1 0 6 ∷ [])
     (step_of 1 1 0 6 ∷ []) ∷
-    two_runs 2 (1 ∷ []) (2 ∷ 2 ∷ []) 0
-    (step_of 0 1 0 6 ∷ step_of 1 2 4 2 ∷ [])
-    (step_of 1 2 4 0 ∷ step_of 0 1 0 2 ∷ []) ∷
-    two_runs 2 (2 ∷ []) (0 ∷ 0 ∷ []) 0
-    (step_of 0 2 4 0 ∷ step_of 1 0 0 1 ∷ [])
-    (step_of 1 0 0 5 ∷ step_of 0 2 4 1 ∷ []) ∷
-    two_runs 2 (2 ∷ []) (0 ∷ 1 ∷ []) 0
-    (step_of 0 2 4 0 ∷ step_of 1 0 0 1 ∷ [])
-    (step_of 1 0 0 5 ∷ step_of 0 2 4 1 ∷ []) ∷
+    two_runs 2 (1 ∷ []) (2 ∷ 2 ∷ []) 2
+    (step_of 0 1 0 6 ∷ step_of 1 2 4 2 ∷ step_of 1 2 4 0 ∷ [])
+    (step_of 1 2 4 0 ∷ []) ∷
+    two_runs 2 (2 ∷ []) (0 ∷ 0 ∷ []) 2
+    (step_of 0 2 4 0 ∷ step_of 1 0 0 1 ∷ step_of 2 0 0 3 ∷ [])
+    (step_of 1 0 0 5 ∷ step_of 1 2 4 1 ∷ step_of 2 0 0 3 ∷ []) ∷
+    two_runs 2 (2 ∷ []) (0 ∷ 1 ∷ []) 2
+    (step_of 0 2 4 0 ∷ step_of 1 0 0 1 ∷ step_of 2 1 0 4 ∷ [])
+    (step_of 1 0 0 5 ∷ step_of 1 2 4 1 ∷ step_of 2 1 0 4 ∷ []) ∷
     two_runs 2 (2 ∷ []) (0 ∷ 2 ∷ []) 1
     (step_of 0 2 4 0 ∷ [])
     (step_of 2 2 4 0 ∷ []) ∷
-    two_runs 2 (2 ∷ []) (1 ∷ 1 ∷ []) 0
-    (step_of 0 2 4 0 ∷ step_of 1 1 0 2 ∷ [])
-    (step_of 1 1 0 6 ∷ step_of 0 2 4 2 ∷ []) ∷
+    two_runs 2 (2 ∷ []) (1 ∷ 1 ∷ []) 2
+    (step_of 0 2 4 0 ∷ step_of 1 1 0 2 ∷ step_of 1 1 0 6 ∷ [])
+    (step_of 1 1 0 6 ∷ []) ∷
     two_runs 2 (2 ∷ []) (1 ∷ 2 ∷ []) 1
     (step_of 0 2 4 0 ∷ [])
     (step_of 2 2 4 0 ∷ []) ∷
@@ -309,12 +309,12 @@ plays_of_cas_3_bool =
     two_runs 0 (0 ∷ []) (0 ∷ 1 ∷ 1 ∷ []) 2
     (step_of 0 0 0 1 ∷ [])
     (step_of 1 0 0 1 ∷ []) ∷
-    two_runs 0 (0 ∷ []) (1 ∷ 1 ∷ 1 ∷ []) 3
-    (step_of 0 0 0 1 ∷ step_of 2 1 1 1 ∷ step_of 2 3 0 2 ∷ [])
+    two_runs 0 (0 ∷ []) (1 ∷ 1 ∷ 1 ∷ []) 1
+    (step_of 0 0 0 1 ∷ step_of 2 1 1 1 ∷ step_of 2 2 0 0 ∷ step_of 1 1 0 2 ∷ [])
     (step_of 1 1 0 2 ∷ step_of 2 1 1 2 ∷ []) ∷
-    two_runs 0 (1 ∷ []) (0 ∷ 0 ∷ 0 ∷ []) 3
-    (step_of 0 1 0 2 ∷ step_of 2 0 1 2 ∷ [])
-    (step_of 1 0 0 1 ∷ step_of 2 0 1 1 ∷ step_of 2 3 0 2 ∷ []) ∷
+    two_runs 0 (1 ∷ []) (0 ∷ 0 ∷ 0 ∷ []) 1
+    (step_of 0 1 0 2 ∷ step_of 2 0 1 2 ∷ step_of 2 4 0 0 ∷ step_of 1 0 0 1 ∷ [])
+    (step_of 1 0 0 1 ∷ step_of 2 0 1 1 ∷ []) ∷
     two_runs 0 (1 ∷ []) (0 ∷ 0 ∷ 1 ∷ []) 1
     (step_of 0 1 0 2 ∷ [])
     (step_of 3 1 0 2 ∷ []) ∷
@@ -330,8 +330,8 @@ plays_of_cas_3_bool =
     two_runs 0 (0 ∷ 0 ∷ []) (0 ∷ 1 ∷ []) 1
     (step_of 0 0 0 1 ∷ [])
     (step_of 2 0 0 1 ∷ []) ∷
-    two_runs 0 (0 ∷ 0 ∷ []) (1 ∷ 1 ∷ []) 3
-    (step_of 0 0 0 1 ∷ step_of 1 0 1 1 ∷ step_of 1 3 0 2 ∷ [])
+    two_runs 0 (0 ∷ 0 ∷ []) (1 ∷ 1 ∷ []) 2
+    (step_of 0 0 0 1 ∷ step_of 1 0 1 1 ∷ step_of 1 2 0 0 ∷ step_of 2 1 0 2 ∷ [])
     (step_of 2 1 0 2 ∷ step_of 1 0 1 2 ∷ []) ∷
     two_runs 0 (0 ∷ 1 ∷ []) (0 ∷ 1 ∷ []) 1
     (step_of 0 0 0 1 ∷ [])
@@ -355,7 +355,7 @@ plays_of_cas_3_bool =
     (step_of 0 2 0 0 ∷ step_of 2 3 1 0 ∷ step_of 2 1 0 2 ∷ [])
     (step_of 1 3 0 2 ∷ step_of 2 3 1 2 ∷ []) ∷
     two_runs 1 (3 ∷ []) (2 ∷ 2 ∷ 2 ∷ []) 3
-    (step_of 0 3 0 2 ∷ step_of 2 2 1 2 ∷ [])
+    (step_of 0 3 0 2 ∷ step_of 2 2 1 2 ∷ step_of 2 1 1 2 ∷ [])
     (step_of 1 2 0 0 ∷ step_of 2 2 1 0 ∷ step_of 2 1 0 2 ∷ []) ∷
     two_runs 1 (3 ∷ []) (2 ∷ 2 ∷ 3 ∷ []) 1
     (step_of 0 3 0 2 ∷ [])
@@ -397,8 +397,8 @@ plays_of_cas_3_bool =
     (step_of 0 4 0 0 ∷ step_of 2 5 1 0 ∷ step_of 2 0 0 1 ∷ [])
     (step_of 1 5 0 1 ∷ step_of 2 5 1 1 ∷ []) ∷
     two_runs 2 (5 ∷ []) (4 ∷ 4 ∷ 4 ∷ []) 3
-    (step_of 0 5 0 1 ∷ step_of 2 4 1 1 ∷ [])
-    (step_of 1 4 0 0 ∷ step_of 2 4 1 0 ∷ step_of 2 0 0 1 ∷ []) ∷
+    (step_of 0 5 0 1 ∷ step_of 2 4 1 1 ∷ step_of 2 2 0 0 ∷ [])
+    (step_of 1 4 0 0 ∷ step_of 2 4 1 0 ∷ []) ∷
     two_runs 2 (5 ∷ []) (4 ∷ 4 ∷ 5 ∷ []) 1
     (step_of 0 5 0 1 ∷ [])
     (step_of 3 5 0 1 ∷ []) ∷

@@ -7,15 +7,9 @@ use Rattle.cn_choice.specs.declared.team.Team.{Team}
 use Rattle.cn_choice.specs.declared.team.Team.TheVariants.{A, B}
 use Rattle.cn_unread.specs.Signs.{Leads, Signs, StatesOf}
 use Rattle.cn_unread.specs.Signs.Leads.{ByFurther, ByMany, Here}
-use Rattle.cn_signs.specs.StateSets.{AreKnownStates, AreStatesFor, InTeam, LedFrom, StepsTo, unsigned, walks}
+use Rattle.cn_signs.specs.StateSets.{AreStatesFor, InTeam, LedFrom, StepsTo, unsigned, walks}
 use Rattle.cn_signs.specs.declared.sign_choice.SignChoice.{SignChoice}
 use Rattle.cn_signs.specs.declared.states.SignStates.{SignStates}
-
--- a state of a team is one of the type
-pub team_below : (t : TypeTable) (s : SignStates) → AreKnownStates t s → (team : Team) (q : ℕ) → InTeam s team q → q < length t.states
-team_below t s known A q h = known.0 q h
-team_below t s known B q (inl h) = known.1 q h
-team_below t s known B q (inr h) = known.2 q h
 
 -- only the operations matter
 pub same_leads : (t : TypeTable) (v w : Signs) → v.many ≡ w.many → v.further ≡ w.further → (first q : ℕ) → Leads t v first q → Leads t w first q

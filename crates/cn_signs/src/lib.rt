@@ -3,8 +3,9 @@
 //!
 //! One process does a single operation and all others another one. Then all go over a list of
 //! further operations until an answer shows which was first. A [`SignChoice`] is a start state with
-//! such operations, and [`SignChoice::has_signs`] says whether it has signs. [`find_signs`] looks
-//! for one that has:
+//! such operations, and [`SignChoice::has_signs`] says whether it has signs. [`SignStates`] are the
+//! states in which the object can be once somebody has moved. [`find_signs`] looks for a choice that
+//! has signs:
 //!
 //! ```text
 //! if let Some(choice) = find_signs(&table, 100_000) {
@@ -24,3 +25,4 @@ mod tests;
 
 pub use search::find_signs;
 pub use sign_choice::SignChoice;
+pub use states::SignStates;

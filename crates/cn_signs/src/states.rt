@@ -2,6 +2,7 @@
 ghost use Rattle.std.specs.Prelude.{◌≡◌, ◌<◌, ◌⊎◌, ◌↔◌, ℕ, All, IsBitSet, length};
 ghost use Rattle.cn_choice.specs.Renumbering.{other};
 ghost use Rattle.cn_outcomes.specs.Subsets.{Below};
+ghost use Rattle.cn_table.specs.TypeTable.{TypeTable};
 ghost use Rattle.cn_signs.specs.SignChoices.{IsKnownChoice};
 ghost use Rattle.cn_signs.specs.StateSets.{AreKnownStates, AreStatesFor, InTeam, LedFrom, StepsTo};
 
@@ -11,9 +12,11 @@ use cn_outcomes::{Bits, image};
 use cn_table::laws::tables_are_valid;
 use cn_table::{Operation, State, Table};
 
-/// The states in which the object can be once somebody has moved.
+/// The states in which the object can be once somebody has moved, where one process does the single
+/// operation of a choice and then further ones, and all others that of the many and then further
+/// ones.
 #[derive(Clone, Copy)]
-pub(crate) struct SignStates {
+pub struct SignStates {
     /// Where the single process was first.
     pub single_first: Bits,
     /// Where another one was first, and the single one has not moved.
@@ -78,10 +81,13 @@ fn closure(table: &Table, many: Operation, further: &[u8], from: Bits) -> Bits
 }
 
 impl SignStates {
-    /// The states for the choice.
+    /// The states for the choice, whose state and operations are the table's: those that a run
+    /// can reach, and no others.
     pub fn of(table: &Table, choice: &SignChoice) -> SignStates
         requires { IsKnownChoice table.now choice.now }
+        // promise: states-of-a-choice (AreStatesFor)
         ensures states { AreStatesFor table.now choice.now result }
+        // promise: states-of-a-choice
         ensures known { AreKnownStates table.now result }
     {
         let (single, many, further) = (choice.single, choice.many, choice.further.as_slice());
@@ -99,9 +105,13 @@ impl SignStates {
         }
     }
 
-    /// The states once a process of the team was first.
+    /// The states once a process of the team was first. The single process is team A.
     pub fn of_team(&self, team: Team) -> Bits
-        ensures { (q : ℕ) → IsBitSet result q ↔ InTeam self.now team q }
+        // promise: states-of-a-choice (InTeam)
+        ensures same { (q : ℕ) → IsBitSet result q ↔ InTeam self.now team q }
+        // promise: states-of-a-choice
+        ensures known { (t : TypeTable) → AreKnownStates t self.now
+            → Below (length t.states) result }
     {
         match team {
             Team::A => self.single_first,
@@ -110,7 +120,7 @@ impl SignStates {
     }
 
     /// Whether no state can be reached whichever team was first.
-    pub fn are_apart(&self) -> bool {
+    pub(crate) fn are_apart(&self) -> bool {
         !self.of_team(Team::A).meets(self.of_team(Team::B))
     }
 }

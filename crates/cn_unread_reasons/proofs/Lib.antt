@@ -2,4 +2,4 @@ pub mod EachOnce
 pub mod Explained
 pub mod Fits
 pub mod FurtherTold
-pub mod Led
+pub mod SignsTold

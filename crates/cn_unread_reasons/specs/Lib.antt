@@ -4,7 +4,6 @@ pub mod LowReasons
 pub mod MergedStates
 pub mod PlayedTraps
 pub mod Plays
-pub mod SignSets
 pub mod SignWitnesses
 pub mod UnreadExplanations
 pub mod UnreadSights

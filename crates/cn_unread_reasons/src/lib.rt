@@ -18,7 +18,6 @@ mod play;
 mod runs;
 mod search;
 mod sight;
-mod sign_states;
 mod signs;
 #[cfg(test)]
 mod tests;

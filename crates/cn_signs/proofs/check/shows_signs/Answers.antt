@@ -3,17 +3,13 @@ use Rattle.std.specs.Prelude.{slice_index}
 use Rattle.std.proofs.lemmas.Bool.{eqb-false, eqb-true}
 use Rattle.cn_table.specs.TypeTable.{transition}
 use Rattle.cn_signs.proofs.Theorem.{signs_exact, stays}
-use Rattle.cn_signs.proofs.Walks.{team_below}
 use Rattle.cn_signs.proofs.check.shows_signs.Goals as goal
-
-pub lead_to_signs-requires-clause-known : goal.lead_to_signs-requires-clause-known
-lead_to_signs-requires-clause-known c q h = team_below c.args.table.now c.args.states.now c.requires.known c.args.choice.now.side q ((c.of_team-own.ensures q).0 h)
 
 pub lead_to_signs-requires-clause-closed : goal.lead_to_signs-requires-clause-closed
 lead_to_signs-requires-clause-closed c q i h l =
     let e = c.as_slice-further.ensures.value in
-    rw e ((c.of_team-own.ensures (transition c.args.table.now (slice_index c.args.choice.now.further.items i) q).1).1
-    (stays c.args.table.now c.args.choice.now c.args.states.now c.requires.states c.args.choice.now.side q i (rw e at l) ((c.of_team-own.ensures q).0 h)))
+    rw e ((c.of_team-own.ensures.same (transition c.args.table.now (slice_index c.args.choice.now.further.items i) q).1).1
+    (stays c.args.table.now c.args.choice.now c.args.states.now c.requires.states c.args.choice.now.side q i (rw e at l) ((c.of_team-own.ensures.same q).0 h)))
 
 pub returns-then-is_empty : goal.returns-then-is_empty
 returns-then-is_empty c = (
@@ -28,5 +24,5 @@ returns c =
     let found = rw e at c.lead_to_signs.ensures in
     let some : 0 < length c.args.choice.now.further.items = omega (arith, eqb-false _ 0 (sym c.is_empty.ensures ∙ c.if-is_empty.false), ap length e) in
     let exact = signs_exact c.args.table.now c.args.choice.now c.args.states.now c.requires.states c.requires.choice c.sign_rows-rows.result c.sign_rows-rows.ensures.rows c.of_team-own.result
-    c.of_team-own.ensures some in
+    c.of_team-own.ensures.same some in
     (λ h. exact.0 (found.0 h), λ s. found.1 (exact.1 s))

@@ -6,14 +6,7 @@ use Rattle.cn_outcomes.proofs.Unions.{at_more}
 use Rattle.cn_signs.specs.SignChecks.{Answers}
 use Rattle.cn_signs.specs.StateSets.{InTeam}
 use Rattle.cn_signs.proofs.Rows.{only_here}
-use Rattle.cn_signs.proofs.Walks.{team_below}
 use Rattle.cn_signs.proofs.responses.sign_rows.Goals as goal
-
-pub responses_in-here-requires-clause-known : goal.responses_in-here-requires-clause-known
-responses_in-here-requires-clause-known c q h = team_below c.args.table.now c.args.states.now c.requires c.args.side q ((c.of_team-own.ensures q).0 h)
-
-pub responses_in-there-requires-clause-known : goal.responses_in-there-requires-clause-known
-responses_in-there-requires-clause-known c q h = team_below c.args.table.now c.args.states.now c.requires c.other_team.result q ((c.of_team-others.ensures q).0 h)
 
 pub loop-operation-preserved : goal.loop-operation-preserved
 loop-operation-preserved c =
@@ -25,8 +18,8 @@ loop-operation-preserved c =
       rows = at_more (λ (x row : ℕ). (r : ℕ) → IsBitSet row r ↔ (Answers t x (InTeam s c.args.side) r × ¬ Answers t x (InTeam s (other c.args.side)) r)) 0 c.loop-operation.rows o
           c.difference.result (omega (arith, i.long, c.loop-operation-test.true, c.operations-operation-end.ensures.range.1)) i.rows
           (only_here t o c.of_team-own.result c.of_team-others.result c.responses_in-here.result c.responses_in-there.result c.difference.result (InTeam s c.args.side) (InTeam s (other c.args.side))
-          c.of_team-own.ensures
-          (subst (λ (team : Team). (q : ℕ) → IsBitSet c.of_team-others.result q ↔ InTeam s team q) c.other_team.ensures c.of_team-others.ensures)
+          c.of_team-own.ensures.same
+          (subst (λ (team : Team). (q : ℕ) → IsBitSet c.of_team-others.result q ↔ InTeam s team q) c.other_team.ensures c.of_team-others.ensures.same)
           c.responses_in-here.ensures c.responses_in-there.ensures c.difference.ensures);
       long = length-set c.loop-operation.rows o c.difference.result ∙ i.long;
     }

@@ -1,0 +1,14 @@
+mod Counted
+mod FewTeams
+mod Growing
+mod Numbers
+mod LeastExamples
+mod Outlines
+mod Joining
+mod NodesOf
+mod Regrouping
+mod Splitting
+mod Steps
+mod SubTrees
+mod Tables
+mod Witnesses

@@ -1,8 +1,0 @@
-use Rattle.std.proofs.Common.{◌≢◌, ◌<◌, ℕ}
-use Rattle.std.specs.Prelude.{IsBitSet}
-use Rattle.cn_table.specs.TypeTable.{transition}
-use Rattle.cn_unread_reasons.proofs.signs.is_never_in.Given as goal
-
--- so it is for the states so far
-abbrev pub invariant-loop-state : goal.invariant-loop-state
-invariant-loop-state l = (q : ℕ) → q < l.state → IsBitSet l.fn.set q → (transition l.table l.fn.answer.operation.0 q).0 ≢ l.fn.answer.response.0
