@@ -70,20 +70,20 @@ quiet_bit_got = quiet_bit_parts (Response 2) (λ q m. tells q m)
 
 -- ---- compare-and-swap
 module _ (k : ℕ) where
-  abbrev row : ℕ → Row
-  row g = record { name = []; response = range_with_len 0 (k + 1); next = (g + 1) ∷ range_with_len 1 k }
+  abbrev swap_to : ℕ → Row
+  swap_to g = record { name = []; response = range_with_len 0 (k + 1); next = (g + 1) ∷ range_with_len 1 k }
 
-  row_is : (g q : ℕ) → g < k → transition (compare_and_swap k) g q ≡ (get_or (row g).response q 0, get_or (row g).next q 0)
-  row_is g q lt = ap (λ (r : Row). (get_or r.response q 0, get_or r.next q 0)) (get_or-map-range_with_len row 0 k g g _ lt (omega arith))
+  swap_is : (g q : ℕ) → g < k → transition (compare_and_swap k) g q ≡ (get_or (swap_to g).response q 0, get_or (swap_to g).next q 0)
+  swap_is g q lt = ap (λ (r : Row). (get_or r.response q 0, get_or r.next q 0)) (get_or-map-range_with_len swap_to 0 k g g _ lt (omega arith))
 
   found : (g q : ℕ) → g < k → q < k + 1 → (transition (compare_and_swap k) g q).0 ≡ q
-  found g q lt l = ap (λ (z : ℕ × ℕ). z.0) (row_is g q lt) ∙ (get_or-range_with_len 0 (k + 1) q 0 l ∙ omega arith)
+  found g q lt l = ap (λ (z : ℕ × ℕ). z.0) (swap_is g q lt) ∙ (get_or-range_with_len 0 (k + 1) q 0 l ∙ omega arith)
 
   kept : (g q : ℕ) → g < k → q < k → (transition (compare_and_swap k) g (suc q)).1 ≡ suc q
-  kept g q lt l = ap (λ (z : ℕ × ℕ). z.1) (row_is g (suc q) lt) ∙ (get_or-range_with_len 1 k q 0 l ∙ omega arith)
+  kept g q lt l = ap (λ (z : ℕ × ℕ). z.1) (swap_is g (suc q) lt) ∙ (get_or-range_with_len 1 k q 0 l ∙ omega arith)
 
   put : (g : ℕ) → g < k → (transition (compare_and_swap k) g 0).1 ≡ suc g
-  put g lt = ap (λ (z : ℕ × ℕ). z.1) (row_is g 0 lt) ∙ omega arith
+  put g lt = ap (λ (z : ℕ × ℕ). z.1) (swap_is g 0 lt) ∙ omega arith
 
   pub swaps_part : ArePart (compare_and_swap k) k (swaps k)
   swaps_part = record {
@@ -141,6 +141,6 @@ swaps_closed k o q lo lq = go q (rw (length-replicate (k + 1)) at lq)
 pub swaps_of : (k : ℕ) → IsPartingOf (compare_and_swap k) k (swaps k)
 swaps_of k = record {
   start = rw (length-replicate (k + 1)) (omega arith);
-  operations = λ g lt. rw (length-map-range_with_len (row k) 0 k) lt;
+  operations = λ g lt. rw (length-map-range_with_len (swap_to k) 0 k) lt;
   sight = tt;
 }
