@@ -1,0 +1,12 @@
+pub mod Costs
+pub mod Dividing
+pub mod Elements
+pub mod Entries
+pub mod Lesser
+pub mod Loading
+pub mod Merging
+pub mod Numbers
+pub mod Passing
+pub mod Permuted
+pub mod Rows
+pub mod Sound

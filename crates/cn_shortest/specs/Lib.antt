@@ -1,0 +1,4 @@
+pub mod Costs
+pub mod Loads
+pub mod Roots
+pub mod Sizes

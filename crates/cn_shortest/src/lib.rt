@@ -1,0 +1,12 @@
+//! The search for the least cost of a plan tree.
+#![tactic(auto)]
+
+mod least;
+mod loads;
+mod roots;
+mod sizes;
+
+pub use least::{Cost, least_cost};
+
+#[cfg(test)]
+mod tests;
