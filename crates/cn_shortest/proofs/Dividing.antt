@@ -23,11 +23,11 @@ use Rattle.cn_tree_costs.specs.Sizes.{HasSizes, IsDivision, team_size, team_size
 use Rattle.cn_shortest.proofs.Numbers.{sum_cons}
 use Rattle.cn_shortest.proofs.Permuted.{shuffled}
 
-same_factor : (s x y : ℕ) → 1 ≤ s → s * x ≡ s * y → x ≡ y
+pub same_factor : (s x y : ℕ) → 1 ≤ s → s * x ≡ s * y → x ≡ y
 same_factor zero x y some e = absurd (omega (arith, some))
 same_factor (suc s) x y some e = sym (mul-div_cancel_left x {n = suc s} (omega arith)) ∙ (ap (λ z. z / suc s) e ∙ mul-div_cancel_left y {n = suc s} (omega arith))
 
-sum_at : (xs : List ℕ) (i : ℕ) → get_or xs i 0 ≤ sum xs
+pub sum_at : (xs : List ℕ) (i : ℕ) → get_or xs i 0 ≤ sum xs
 sum_at [] i = omega arith
 sum_at (x ∷ xs) zero = omega (arith, sum_cons x xs)
 sum_at (x ∷ xs) (suc i) = omega (arith, sum_at xs i, sum_cons x xs)
@@ -60,7 +60,7 @@ size_most team (suc n) g = elim (cases_eq (team n) g) [
   | inr ne ↦ (let y : nat_eq (team n) g ≡ false = grind (arith, nat_tests) in rw y (omega (arith, size_most team n g)))
 ]
 
-size_less : (team : ℕ → ℕ) (n g q : ℕ) → q < n → team q ≢ g → team_size team n g < n
+pub size_less : (team : ℕ → ℕ) (n g q : ℕ) → q < n → team q ≢ g → team_size team n g < n
 size_less team zero g q l ne = absurd (omega (arith, l))
 size_less team (suc n) g q l ne = elim (cases_eq (team n) g) [
   | inl e ↦ (let y : nat_eq (team n) g ≡ true = grind (arith, nat_tests) in

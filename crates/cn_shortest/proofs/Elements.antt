@@ -56,3 +56,8 @@ all_at P (y ∷ xs) (suc i) x all e = all_at P xs i x (All-tail P y xs all) e
 
 pub read_at : {X : Type 0} (xs : List X) (i : ℕ) (x d : X) → slice_get xs i ≡ Some x → get_or xs i d ≡ x
 read_at xs i x d e = same_Some (get_or xs i d) x (sym (slice_get-get_or xs i d (slice_get_within xs i x e)) ∙ e)
+
+pub element_at : {X : Type 0} (xs : List X) (i : ℕ) → i < length xs → (x : X) × (slice_get xs i ≡ Some x)
+element_at [] i l = absurd (omega (arith, l))
+element_at (x ∷ xs) zero l = (x, refl)
+element_at (x ∷ xs) (suc i) l = element_at xs i (omega (arith, l))

@@ -60,7 +60,7 @@ pub record Merged (old new : List ℕ) (a b : ℕ) : Type 0 where
   pub old_is : IsPermutation (sizes_of old) (a ∷ (b ∷ rest))
   pub new_is : IsPermutation (sizes_of new) ((a + b) ∷ rest)
 
-both_cons : (x a b : ℕ) → times x (a ∷ (b ∷ [])) ≡ one x a + one x b
+pub both_cons : (x a b : ℕ) → times x (a ∷ (b ∷ [])) ≡ one x a + one x b
 both_cons x a b = omega (arith, times_cons x a (b ∷ []), times_cons x b [], times_none x)
 
 pub merged_is : (old new : List ℕ) (a b : ℕ) → 1 ≤ a → 1 ≤ b → a + b ≤ 8 → HasBoth old a b → AreMerged old a b new → Merged old new a b

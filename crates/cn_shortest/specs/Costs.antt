@@ -1,5 +1,5 @@
 -- The cost of a least plan tree.
-use Rattle.std.specs.Prelude.{ℕ, ◌≡◌, ◌+◌, ◌-◌, ◌<◌, ◌≤◌, ◌↔◌, Bool, true, false, Contains, IfSome, List, Option, None, Some, slice_get}
+use Rattle.std.specs.Prelude.{ℕ, ◌≡◌, ◌<◌, ◌≤◌, ◌↔◌, Bool, true, false, IfSome, List, Option, None, Some, slice_get}
 use Rattle.std.specs.Option.{IsSome}
 use Rattle.cn_table.specs.TypeTable.{TypeTable}
 use Rattle.cn_meetings.specs.Meeting.{Sight}
@@ -7,11 +7,7 @@ use Rattle.cn_trees.specs.Tree.{PlanTree}
 use Rattle.cn_tree_costs.specs.Cost as plans
 use Rattle.cn_tree_costs.specs.Cost.{IsLeastPlan, IsTreeFor, cost}
 use Rattle.cn_meetings.specs.Meeting.Sight.{Nothing, Response, State}
-use Rattle.cn_tree_costs.specs.Least.{AreRoots, IsRoot, Root}
-use Rattle.cn_stocks.specs.Each.{EachAt}
-use Rattle.cn_shortest.specs.Loads.{all_roots, load_in}
-use Rattle.cn_shortest.specs.Roots.{AreRootsOf}
-use Rattle.cn_shortest.specs.declared.roots.Roots.{Roots}
+use Rattle.cn_shortest.specs.Loads.{load_in}
 use Rattle.cn_shortest.specs.declared.least.Cost.{Cost}
 use Rattle.cn_shortest.specs.declared.loads.Load.{Load}
 
@@ -40,11 +36,3 @@ abbrev pub two_sights : Sight → Bool
 two_sights State = true
 two_sights Nothing = true
 two_sights (Response o) = false
-
--- a least cost by the sizes of all divisions of 2 to n processes, found or coarser: each is the
--- root of a witness, and if no root is missing, then it is the cost of a least plan
-pub record IsLeastOfRoots (t : TypeTable) (n : ℕ) (found : Option Cost) : Type 0 where
-  pub list : List Roots
-  pub each : EachAt (λ i r. AreRootsOf t (i + 2) r) (n - 1) list
-  pub sound : (m : ℕ) (root : Root) → Contains (all_roots list m) root → IsRoot t two_sights m root
-  pub least_is : AreRoots t two_sights n (all_roots list) → IsLeastCost t two_sights n found

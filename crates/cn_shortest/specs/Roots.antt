@@ -1,15 +1,11 @@
 -- Sizes that two teams have as one, and lists of sizes.
 use Rattle.std.specs.Prelude.{ℕ, zero, suc, ◌≡◌, ◌+◌, ◌<◌, ◌≤◌, ◌⊎◌, ◌++◌, [], ◌∷◌, All, List, Some, slice_get, slice_index}
 use Rattle.cn_choice.specs.declared.limits.TheConstants.{MOST_PROCESSES}
-use Rattle.cn_divisions.specs.Divisions.{AreDivisions}
 use Rattle.cn_divisions.specs.declared.divisions.Division.{Division}
-use Rattle.cn_divisions.specs.declared.search.Divisions.{Divisions}
 use Rattle.cn_meetings.specs.Meeting.{Sight}
 use Rattle.cn_table.specs.TypeTable.{TypeTable}
 use Rattle.cn_tree_costs.specs.Sizes.{HasSizes, IsDivision}
 use Rattle.cn_shortest.specs.Sizes.{AreCounts, AreMerged, AreOf, HasBoth, sizes_of}
-use Rattle.cn_meetings.specs.Meeting.Sight.{Nothing, State}
-use Rattle.cn_shortest.specs.declared.roots.Roots.{Roots}
 use Rattle.cn_shortest.specs.declared.sizes.Sizes.{Sizes}
 
 -- as many teams of each size
@@ -85,12 +81,3 @@ pub record AreSizesOf (n : ℕ) (divisions : List Division) (list : List Sizes) 
   pub found : (t : TypeTable) (sight : Sight) → AreWitnesses t sight divisions
       → AreFound t sight n list
   pub all : HasAllWithin n MOST_PROCESSES divisions list
-
--- the sizes of all divisions of n processes, each that of a witness
-pub record AreRootsOf (t : TypeTable) (n : ℕ) (roots : Roots) : Type 0 where
-  pub divisions : Divisions
-  pub are : AreDivisions t n divisions
-  pub state : AreSizesOf n divisions.state.items roots.state.items
-  pub nothing : AreSizesOf n divisions.nothing.items roots.nothing.items
-  pub state_found : AreFound t State n roots.state.items
-  pub nothing_found : AreFound t Nothing n roots.nothing.items

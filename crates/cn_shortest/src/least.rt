@@ -6,9 +6,8 @@ ghost use Rattle.cn_stocks.specs.Each.{EachAt};
 ghost use Rattle.cn_meetings.specs.Meeting.{Sight};
 ghost use Rattle.cn_table.specs.TypeTable.{TypeTable};
 ghost use Rattle.cn_tree_costs.specs.Least.{AreRoots};
-ghost use Rattle.cn_shortest.specs.Costs.{HaveNoLoad, IsFirstCost, IsLeastCost, IsLeastOfRoots};
+ghost use Rattle.cn_shortest.specs.Costs.{HaveNoLoad, IsFirstCost, IsLeastCost, two_sights};
 ghost use Rattle.cn_shortest.specs.Loads.{AreAllOf, all_roots};
-ghost use Rattle.cn_shortest.specs.Roots.{AreRootsOf};
 ghost use Rattle.cn_shortest.specs.declared.loads.TheConstants.{MOST_STEPS};
 ghost use Rattle.cn_shortest.specs.declared.roots.Roots.{Roots};
 
@@ -41,8 +40,10 @@ fn roots_of_all(
     requires few { length divisions.now < MOST_PROCESSES }
     requires divisions { EachAt (λ i d. AreDivisions table.now (i + 2) d) (length divisions.now)
         divisions.now }
-    ensures { IfOk result (λ roots. EachAt (λ i r. AreAllOf (i + 2) r
-        × AreRootsOf table.now (i + 2) r) (length divisions.now) roots.items) }
+    ensures each { IfOk result (λ roots. EachAt (λ i r. AreAllOf (i + 2) r) (length divisions.now)
+        roots.items) }
+    ensures are { IfOk result (λ roots. AreRoots table.now two_sights (length divisions.now + 1)
+        (all_roots roots.items)) }
 {
     sizes_are_kept();
     finest_divisions_are_witnesses();
@@ -97,8 +98,8 @@ fn cost_of_roots(alloc: Global, roots: &[Roots]) -> Result<Option<Cost>, AllocEr
 pub fn least_cost(alloc: Global, table: &Table, n: u8) -> Result<Option<Cost>, AllocError>
     requires some { 2 ≤ n }
     requires few { n ≤ MOST_PROCESSES }
-    // promise: least-costs (IsLeastOfRoots: AreRootsOf, AreRoots, IsLeastCost)
-    ensures { IfOk result (IsLeastOfRoots table.now n) }
+    // promise: least-cost (IsLeastCost: IsLeastPlan)
+    ensures { IfOk result (IsLeastCost table.now two_sights n) }
 {
     let divisions = find_divisions(alloc, table, n)?;
     let roots = roots_of_all(alloc, table, divisions.as_slice())?;

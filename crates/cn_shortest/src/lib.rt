@@ -4,6 +4,7 @@
 mod least;
 mod loads;
 mod roots;
+mod sights;
 mod sizes;
 
 pub use least::{Cost, least_cost};

@@ -1,7 +1,7 @@
 //! The least load of objects and steps, for each number of processes and each bound on their steps.
 ghost use Rattle.std.specs.Prelude.{◌≡◌, ◌<◌, ◌≤◌, ◌+◌, ◌*◌, ◌++◌, ◌↔◌, ℕ, List, All, IfOk, IsTrue, length, None, replicate, slice_get, Some};
 ghost use Rattle.cn_choice.specs.declared.limits.TheConstants.{MOST_PROCESSES};
-ghost use Rattle.cn_divisions.specs.Sights.{sight_of};
+ghost use Rattle.cn_shortest.specs.Sights.{sight_of};
 ghost use Rattle.cn_stocks.specs.Each.{EachAt};
 ghost use Rattle.cn_tree_costs.specs.Least.{IsAtMost, IsLoadTable, LoadTable};
 ghost use Rattle.cn_tree_costs.specs.Least.{load_of_teams as load_of_sizes, load_of_root as load_at_root, plus as both};
@@ -13,9 +13,9 @@ ghost use Rattle.cn_shortest.specs.declared.loads.TheConstants.{MOST_STEPS};
 ghost use Rattle.cn_shortest.specs.declared.roots.Roots.{Roots};
 
 use crate::roots::Roots;
+use crate::sights::Sight;
 use crate::sizes::Sizes;
 use cn_choice::MOST_PROCESSES;
-use cn_divisions::Sight;
 use std::alloc::{AllocError, Global};
 
 /// The greatest bound on own steps that a plan tree needs.

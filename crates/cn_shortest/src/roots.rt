@@ -9,7 +9,7 @@ ghost use Rattle.cn_shortest.specs.declared.sizes.Sizes.{Sizes};
 
 use crate::sizes::{Sizes, count, merge};
 use cn_choice::MOST_PROCESSES;
-use cn_divisions::{Division, Divisions, Sight};
+use cn_divisions::{Division, Divisions};
 use cn_tree_costs::laws::sizes_are_kept;
 use std::alloc::{AllocError, Global};
 

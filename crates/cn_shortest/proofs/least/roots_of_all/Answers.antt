@@ -1,12 +1,14 @@
-use Rattle.std.proofs.Common.{◌+◌, refl, length}
+use Rattle.std.proofs.Common.{◌≡◌, ◌+◌, ◌∙◌, arith, refl, length, subst}
 use Rattle.std.proofs.lemmas.Option.{slice_get_read}
 use Rattle.cn_divisions.specs.Divisions.{IsDivision}
 use Rattle.cn_meetings.specs.Meeting.Sight.{Nothing, State}
+use Rattle.cn_stocks.specs.Each.{EachAt}
 use Rattle.cn_stocks.proofs.EachLemmas.{each_push}
 use Rattle.cn_shortest.specs.Loads.{AreAllOf}
-use Rattle.cn_shortest.specs.Roots.{AreRootsOf}
 use Rattle.cn_shortest.proofs.Dividing.{division_found, witness_found}
 use Rattle.cn_shortest.proofs.Elements.{all_at}
+use Rattle.cn_shortest.proofs.Enough.{roots_enough}
+use Rattle.cn_shortest.proofs.Sound.{AreRootsOf}
 use Rattle.cn_shortest.proofs.least.roots_of_all.Goals as goal
 
 pub find_roots-requires-clause-state : goal.find_roots-requires-clause-state
@@ -50,3 +52,14 @@ loop-place-preserved c =
         nothing_found = f.nothing.found t Nothing (λ i d e. witness_found t Nothing n d (all_at (IsDivision t Nothing n) D.nothing.items i d are.1.are e) tt witness (laws.counted t Nothing) (laws.any_order t Nothing) (laws.smaller t Nothing));
       },
     )
+
+pub returns-clause-each : goal.returns-clause-each
+returns-clause-each c =
+    let end : c.loop-place.place ≡ length c.args.divisions.now = omega (arith, c.loop-place-test.false, c.loop-place.auto.place-end) in
+    (c.loop-place.invariant.0 ∙ end, λ i r e. (c.loop-place.invariant.1 i r e).0)
+
+pub returns-clause-are : goal.returns-clause-are
+returns-clause-are c =
+    let end : c.loop-place.place ≡ length c.args.divisions.now = omega (arith, c.loop-place-test.false, c.loop-place.auto.place-end) in
+    roots_enough c.args.table.now c.loop-place.all.items (length c.args.divisions.now) (let few = c.requires.few in omega (arith, few))
+    (subst (λ k. EachAt (λ i x. AreAllOf (i + 2) x × AreRootsOf c.args.table.now (i + 2) x) k c.loop-place.all.items) end c.loop-place.invariant)

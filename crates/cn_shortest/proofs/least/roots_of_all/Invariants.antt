@@ -1,7 +1,7 @@
 use Rattle.std.proofs.Common.{◌+◌}
 use Rattle.cn_stocks.specs.Each.{EachAt}
 use Rattle.cn_shortest.specs.Loads.{AreAllOf}
-use Rattle.cn_shortest.specs.Roots.{AreRootsOf}
+use Rattle.cn_shortest.proofs.Sound.{AreRootsOf}
 use Rattle.cn_shortest.proofs.least.roots_of_all.Given as goal
 
 abbrev pub invariant-loop-place : goal.invariant-loop-place
