@@ -24,5 +24,5 @@ returns c =
     let long : length c.as_slice.result.now + 1 ≡ c.args.n = omega (arith, ap length c.as_slice.ensures.value, c.in_ok-divisions.ensures.0, c.requires.some) in
     let many : length list + 1 ≡ c.args.n = omega (arith, ap length these, c.in_ok-roots.ensures.each.0, long) in
     let are : AreRoots t two_sights c.args.n (all_roots list) = subst (λ n. AreRoots t two_sights n (all_roots list)) long
-        (subst (λ (l : List Roots). AreRoots t two_sights (length c.as_slice.result.now + 1) (all_roots l)) (sym these) c.in_ok-roots.ensures.are) in
+    (subst (λ (l : List Roots). AreRoots t two_sights (length c.as_slice.result.now + 1) (all_roots l)) (sym these) c.in_ok-roots.ensures.are) in
     subst (λ n. AreRoots t two_sights n (all_roots list) → IsLeastCost t two_sights n c.in_ok-cost.cost) many (c.in_ok-cost.ensures t two_sights) are
