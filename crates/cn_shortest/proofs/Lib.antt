@@ -1,0 +1,16 @@
+pub mod Coarser
+pub mod Costs
+pub mod Dividing
+pub mod Elements
+pub mod Enough
+pub mod Entries
+pub mod Lesser
+pub mod Loading
+pub mod Merging
+pub mod Moves
+pub mod Numbers
+pub mod Passing
+pub mod Permuted
+pub mod Rows
+pub mod Sound
+pub mod TeamCounts

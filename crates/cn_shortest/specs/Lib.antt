@@ -1,0 +1,5 @@
+pub mod Costs
+pub mod Loads
+pub mod Roots
+pub mod Sights
+pub mod Sizes
