@@ -1,0 +1,6 @@
+pub mod Made
+pub mod Paths
+pub mod Plan
+pub mod Shapes
+pub mod Teams
+pub mod TeamsCode

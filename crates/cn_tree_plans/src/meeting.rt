@@ -1,0 +1,28 @@
+//! Meetings.
+
+use cn_table::{Operation, State};
+use std::marker::Model;
+
+/// The meeting of a node.
+#[derive(Drop)]
+pub struct Meeting {
+    /// The state in which the object starts.
+    pub start: State,
+    /// Whether the processes read the state behind their operations.
+    pub reads: bool,
+    /// The operation of each process of the node, from the first one on.
+    pub operations: Vec<Operation>,
+}
+
+impl Model for Meeting {
+    ghost use Rattle.std.specs.Prelude.{map};
+    ghost use Rattle.cn_tree_plans.specs.Plan.{NodeMeeting};
+
+    ghost Value = { NodeMeeting };
+
+    ghost view = { λ m. record {
+      start = m.start.0;
+      reads = m.reads;
+      operations = map (λ o. o.0) m.operations.items;
+    } };
+}
