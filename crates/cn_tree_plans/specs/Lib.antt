@@ -1,6 +1,5 @@
 pub mod Made
 pub mod Paths
 pub mod Plan
-pub mod Shapes
 pub mod Teams
 pub mod TeamsCode

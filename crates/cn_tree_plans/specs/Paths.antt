@@ -1,5 +1,5 @@
 -- The paths of the processes in memory.
-use Rattle.std.specs.Prelude.{◌≡◌, ◌<◌, ℕ, List, [], length, map, slice_index_or}
+use Rattle.std.specs.Prelude.{◌≡◌, ◌+◌, ◌<◌, ℕ, List, [], length, map, slice_index_or}
 use Rattle.cn_meetings.specs.Witness.{Has}
 use Rattle.cn_trees.specs.Tree.{Place, Teams, comes_to, members, nodes_in, path_in, team_in}
 use Rattle.cn_tree_costs.specs.Nodes.{node_at}

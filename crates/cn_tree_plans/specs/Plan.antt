@@ -1,6 +1,7 @@
 -- A plan tree as data: its teams, and for each node its meeting and its judgements.
-use Rattle.std.specs.Prelude.{◌≡◌, ◌+◌, ◌-◌, ◌<◌, ◌≤◌, ◌↔◌, ◌⊎◌, ◌==◌, ◌&&◌, ℕ, Bool, List, [], ◌∷◌, length}
-use Rattle.std.specs.Prelude.{AllPairs, Contains, if◌then◌else◌, slice_index, slice_index_or, false, refl}
+use Rattle.std.specs.Prelude.{◌≡◌, ◌+◌, ◌-◌, ◌<◌, ◌≤◌, ◌↔◌, ◌⊎◌, ◌==◌, ◌&&◌, ℕ, Bool, List, [], length}
+use Rattle.std.specs.Prelude.{AllPairs, Contains, if◌then◌else◌, slice_index, slice_index_or, false, find, refl}
+use Rattle.std.specs.Option.{option_map_or}
 use Rattle.std.specs.Coded.{Coded, code_by, coded×, coded_ℕ, coded_bool, coded_list}
 use Rattle.cn_table.specs.TypeTable.{TypeTable, IsTypeTable, table_code}
 use Rattle.cn_choice.specs.declared.limits.TheConstants.{MOST_PROCESSES}
@@ -57,11 +58,10 @@ abbrev pub judged_at : TreePlan → ℕ → ℕ → List Judged
 judged_at plan v p =
     slice_index_or (slice_index_or plan.judged v []) (p - (node_at plan.teams v).first) []
 
--- the team that is judged by this response and this state, or team 0
+-- the team of the first entry with this response and this state, or team 0
 abbrev pub judged_team : List Judged → ℕ → ℕ → ℕ
-judged_team [] response state = 0
-judged_team (x ∷ judged) response state =
-    if (x.response.0 == response) && (x.state.0 == state) then x.team else judged_team judged response state
+judged_team judged response state = option_map_or (λ x. x.team) 0
+    (find (λ x. (x.response.0 == response) && (x.state.0 == state)) judged)
 
 -- the plan tree of this plan
 abbrev pub tree_of : TreePlan → PlanTree

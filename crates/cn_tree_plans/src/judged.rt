@@ -40,12 +40,10 @@ impl JudgedList {
     pub(crate) fn team(&self, response: Response, state: State) -> u8
         ensures { result ≡ judged_team self.now response.0 state.0 }
     {
-        for entry in &self.entries {
-            if entry.response == response && entry.state == state {
-                return entry.team;
-            }
-        }
-        0
+        self.entries
+            .iter()
+            .find(|x| x.response.0 == response.0 && x.state.0 == state.0)
+            .map_or(0, |x| x.team)
     }
 }
 

@@ -41,7 +41,7 @@ pub struct Cost {
 pub struct TreePlan {
     table: Table,
     teams: Teams,
-    meetings: Vec<Meeting>,
+    pub(crate) meetings: Vec<Meeting>,
     judged: Vec<NodeJudged>,
     paths: Vec<Path>,
 }
@@ -152,7 +152,7 @@ impl TreePlan {
         // promise: parts-of-a-tree-plan
         ensures { result ≡ (node_at self.now.teams node).first }
     {
-        self.teams.shape_at(node).first
+        self.teams.first_at(node)
     }
 
     /// The number of processes that come to a node.
@@ -164,7 +164,7 @@ impl TreePlan {
         ensures range { (2 ≤ result)
             × ((node_at self.now.teams node).first + result ≤ processes_of (tree_of self.now)) }
     {
-        self.teams.shape_at(node).size
+        self.teams.at(node).members()
     }
 
     /// The number of teams of a node.
@@ -175,7 +175,7 @@ impl TreePlan {
         // promise: parts-of-a-tree-plan
         ensures range { (2 ≤ result) × (result ≤ MOST_PROCESSES) }
     {
-        self.teams.shape_at(node).teams
+        self.teams.at(node).count()
     }
 
     /// The team of a process at a node to which it comes.

@@ -1,10 +1,9 @@
 //! The teams of a node.
-ghost use Rattle.std.specs.Prelude.{◌≡◌, ◌≤◌, ◌<◌, ◌^◌, length};
+ghost use Rattle.std.specs.Prelude.{◌≡◌, ◌+◌, ◌≤◌, ◌<◌, ◌^◌, length};
 ghost use Rattle.cn_trees.specs.Tree.{members, nodes_in};
 ghost use Rattle.cn_tree_costs.specs.Nodes.{node_at, node_below};
 ghost use Rattle.cn_tree_costs.specs.Sizes.{sizes_of};
-ghost use Rattle.cn_tree_plans.specs.Shapes.{shape_of};
-ghost use Rattle.cn_tree_plans.specs.Teams.{teams_of};
+ghost use Rattle.cn_tree_plans.specs.Teams.{AreSeveralBelow, teams_of};
 
 /// The teams of a node, one after the other.
 #[derive(Debug, Drop)]
@@ -15,14 +14,6 @@ pub enum Teams {
     Alone(Box<Teams>),
     /// A team of the processes that have met at a node of the first teams, and further teams.
     Meet(Box<Teams>, Box<Teams>),
-}
-
-/// The numbers of a node: its first process, and how many processes and teams it has.
-#[derive(Clone, Copy, Drop)]
-pub(crate) struct Shape {
-    pub first: u8,
-    pub size: u8,
-    pub teams: u8,
 }
 
 impl Teams {
@@ -51,7 +42,7 @@ impl Teams {
     }
 
     /// How many teams there are.
-    fn count(&self) -> u8
+    pub(crate) fn count(&self) -> u8
         requires { length (sizes_of (teams_of self.now)) < 2 ^ 8 }
         ensures { result ≡ length (sizes_of (teams_of self.now)) }
     {
@@ -59,5 +50,67 @@ impl Teams {
             Teams::Last => 0,
             Teams::Alone(rest) | Teams::Meet(_, rest) => 1 + rest.count(),
         }
+    }
+
+    /// The teams of node v of those below, counted from 0.
+    fn below(&self, v: u8) -> &Teams
+        requires known { v < nodes_in (teams_of self.now) }
+        requires nodes { nodes_in (teams_of self.now) < 2 ^ 8 }
+        ensures { teams_of result.now ≡ (node_below (teams_of self.now) v).teams }
+    {
+        match self {
+            Teams::Last => self,
+            Teams::Alone(rest) => rest.below(v),
+            Teams::Meet(team, rest) => {
+                let nodes = team.nodes_below();
+                if v == 0 {
+                    team
+                } else if v - 1 < nodes {
+                    team.below(v - 1)
+                } else {
+                    rest.below(v - 1 - nodes)
+                }
+            }
+        }
+    }
+
+    /// The first process of this node.
+    fn first_below(&self, v: u8) -> u8
+        requires few { members (teams_of self.now) < 2 ^ 8 }
+        requires nodes { nodes_in (teams_of self.now) < 2 ^ 8 }
+        ensures { result ≡ (node_below (teams_of self.now) v).first }
+    {
+        match self {
+            Teams::Last => 0,
+            Teams::Alone(rest) => 1 + rest.first_below(v),
+            Teams::Meet(team, rest) => {
+                let nodes = team.nodes_below();
+                if v == 0 {
+                    0
+                } else if v - 1 < nodes {
+                    team.first_below(v - 1)
+                } else {
+                    team.members() + rest.first_below(v - 1 - nodes)
+                }
+            }
+        }
+    }
+
+    /// The teams of a node of the tree with these teams at the root.
+    pub(crate) fn at(&self, node: u8) -> &Teams
+        requires known { node < 1 + nodes_in (teams_of self.now) }
+        requires nodes { nodes_in (teams_of self.now) < 2 ^ 8 }
+        ensures { teams_of result.now ≡ (node_at (teams_of self.now) node).teams }
+    {
+        if node == 0 { self } else { self.below(node - 1) }
+    }
+
+    /// The first process of this node.
+    pub(crate) fn first_at(&self, node: u8) -> u8
+        requires few { members (teams_of self.now) < 2 ^ 8 }
+        requires nodes { nodes_in (teams_of self.now) < 2 ^ 8 }
+        ensures { result ≡ (node_at (teams_of self.now) node).first }
+    {
+        if node == 0 { 0 } else { self.first_below(node - 1) }
     }
 }
