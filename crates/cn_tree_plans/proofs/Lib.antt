@@ -1,1 +1,5 @@
 pub mod TeamLemmas
+pub mod Carrying
+pub mod Outcomes
+pub mod PlanLemmas
+pub mod Turning

@@ -51,7 +51,7 @@ meet_nodes P s r here first further (suc v) = go (nat_lt v (nodes_in s)) refl
     go true e = first v (grind (arith, nat_tests))
     go false e = further v (grind (arith, nat_tests))
 
-within_below : (s : Teams) (v : ℕ) → (node_below s v).first + members (node_below s v).teams ≤ members s
+pub within_below : (s : Teams) (v : ℕ) → (node_below s v).first + members (node_below s v).teams ≤ members s
 within_below Last v = omega arith
 within_below (Alone r) v = let i = within_below r v in omega arith
 within_below (Meet s r) v =

@@ -60,8 +60,8 @@ judged_at plan v p =
 
 -- the team of the first entry with this response and this state, or team 0
 abbrev pub judged_team : List Judged → ℕ → ℕ → ℕ
-judged_team judged response state = option_map_or (λ x. x.team) 0
-    (find (λ x. (x.response.0 == response) && (x.state.0 == state)) judged)
+judged_team judged response state = option_map_or (λ x. x.team)
+    (find (λ x. (x.response.0 == response) && (x.state.0 == state)) judged) 0
 
 -- the plan tree of this plan
 abbrev pub tree_of : TreePlan → PlanTree

@@ -1,5 +1,5 @@
 //! What processes judge.
-ghost use Rattle.std.specs.Prelude.{◌≡◌};
+ghost use Rattle.std.specs.Prelude.{◌≡◌, ◌<◌, ◌==◌, ◌&&◌, [], find, length, slice_index_or};
 ghost use Rattle.cn_tree_plans.specs.Plan.{judged_team};
 
 use cn_table::{Response, State};
@@ -36,21 +36,32 @@ impl JudgedList {
         self.entries.as_slice()
     }
 
-    /// The team of the first entry with this response and this state, or team 0.
-    pub(crate) fn team(&self, response: Response, state: State) -> u8
-        ensures { result ≡ judged_team self.now response.0 state.0 }
+    /// The first entry with this response and this state.
+    fn entry(&self, response: Response, state: State) -> Option<Judged>
+        ensures { result
+            ≡ find (λ x. (x.response.0 == response.0) && (x.state.0 == state.0)) self.now }
     {
         self.entries
             .iter()
+            .copied()
             .find(|x| x.response.0 == response.0 && x.state.0 == state.0)
-            .map_or(0, |x| x.team)
+    }
+
+    /// Its team, or team 0.
+    pub(crate) fn team(&self, response: Response, state: State) -> u8
+        ensures { result ≡ judged_team self.now response.0 state.0 }
+    {
+        match self.entry(response, state) {
+            Some(entry) => entry.team,
+            None => 0,
+        }
     }
 }
 
 /// What each process of a node judges.
 #[derive(Drop)]
 pub(crate) struct NodeJudged {
-    pub lists: Vec<JudgedList>,
+    lists: Vec<JudgedList>,
 }
 
 impl Model for NodeJudged {
@@ -60,4 +71,14 @@ impl Model for NodeJudged {
     ghost Value = { List (List Judged) };
 
     ghost view = { λ j. j.lists.items };
+}
+
+impl NodeJudged {
+    /// The list of the process with this number, counted from the first one of the node.
+    pub(crate) fn list(&self, place: u8) -> &JudgedList
+        requires { place < length self.now }
+        ensures { result.now ≡ slice_index_or self.now place [] }
+    {
+        &self.lists[usize::from(place)]
+    }
 }

@@ -1,4 +1,5 @@
 //! Meetings.
+ghost use Rattle.std.specs.Prelude.{◌≡◌, ◌<◌, length, slice_index};
 
 use cn_table::{Operation, State};
 use std::marker::Model;
@@ -25,4 +26,14 @@ impl Model for Meeting {
       reads = m.reads;
       operations = map (λ o. o.0) m.operations.items;
     } };
+}
+
+impl Meeting {
+    /// The operation of the process with this number, counted from the first one of the node.
+    pub(crate) fn operation(&self, place: u8) -> Operation
+        requires { place < length self.now.operations }
+        ensures { result.0 ≡ slice_index self.now.operations place }
+    {
+        self.operations[usize::from(place)]
+    }
 }

@@ -1,6 +1,7 @@
 //! The paths of processes.
 ghost use Rattle.std.specs.Prelude.{◌≡◌, ◌+◌, ◌<◌, ◌≤◌, ◌^◌, ◌++◌, IfOk, OnOk};
-ghost use Rattle.cn_trees.specs.Tree.{climb, members, path_in};
+ghost use Rattle.cn_choice.specs.declared.limits.TheConstants.{MOST_PROCESSES};
+ghost use Rattle.cn_trees.specs.Tree.{climb, members, nodes_in, path_in};
 ghost use Rattle.cn_tree_plans.specs.Paths.{ArePaths, places_of};
 ghost use Rattle.cn_tree_plans.specs.Teams.{AreSeveralBelow, teams_of};
 
@@ -26,7 +27,7 @@ impl Model for Path {
 impl Path {
     /// The path of a process of the tree with these teams at the root.
     fn of(alloc: Global, teams: &Teams, process: u8) -> Result<Path, AllocError>
-        requires few { members (teams_of teams.now) < 2 ^ 8 }
+        requires few { members (teams_of teams.now) ≤ MOST_PROCESSES }
         requires several { AreSeveralBelow (teams_of teams.now) }
         ensures { IfOk result (λ path. places_of path ≡ path_in (teams_of teams.now) process) }
     {
@@ -54,7 +55,7 @@ fn push_places(
     requires several { AreSeveralBelow (teams_of teams.now) }
     requires few { members (teams_of teams.now) < 2 ^ 8 }
     requires teams { top.team + members (teams_of teams.now) < 2 ^ 8 }
-    requires nodes { next + members (teams_of teams.now) ≤ 2 ^ 8 }
+    requires nodes { next + nodes_in (teams_of teams.now) < 2 ^ 8 }
     ensures { OnOk result (places_of places.new.items
         ≡ places_of places.old.items ++ climb (teams_of teams.now) top.node top.team next process) }
 {
@@ -68,6 +69,7 @@ fn push_places(
             }
         }
         Teams::Meet(team, rest) => {
+            team.has_several();
             let size = team.members();
             if process < size {
                 let below = Place {
@@ -99,7 +101,7 @@ fn beside(top: Place) -> Place
 
 /// The paths of all processes of the tree with these teams at the root.
 pub(crate) fn all_paths(alloc: Global, teams: &Teams) -> Result<Vec<Path>, AllocError>
-    requires few { members (teams_of teams.now) < 2 ^ 8 }
+    requires few { members (teams_of teams.now) ≤ MOST_PROCESSES }
     requires several { AreSeveralBelow (teams_of teams.now) }
     ensures { IfOk result (λ paths. ArePaths (teams_of teams.now) paths.items) }
 {

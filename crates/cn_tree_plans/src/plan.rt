@@ -1,5 +1,5 @@
 //! Plan trees.
-ghost use Rattle.std.specs.Prelude.{◌≡◌, ◌+◌, ◌<◌, ◌≤◌, ℕ, All, length, slice_index_or};
+ghost use Rattle.std.specs.Prelude.{◌≡◌, ◌+◌, ◌-◌, ◌<◌, ◌≤◌, ℕ, All, if◌then◌else◌, length, slice_index, slice_index_or};
 ghost use Rattle.cn_choice.specs.declared.limits.TheConstants.{MOST_PROCESSES};
 ghost use Rattle.cn_meetings.specs.Meeting.{act};
 ghost use Rattle.cn_meetings.specs.Witness.{Has};
@@ -11,13 +11,14 @@ ghost use Rattle.cn_tree_costs.specs.Nodes.{node_at};
 ghost use Rattle.cn_tree_costs.specs.Sizes.{sizes_of};
 ghost use Rattle.cn_tree_plans.specs.Made.{IsMade};
 ghost use Rattle.cn_tree_plans.specs.Paths.{IsPlaceOf, places_of};
-ghost use Rattle.cn_tree_plans.specs.Plan.{AreMeetings, judged_at, meeting_in, no_meeting, tree_of};
+ghost use Rattle.cn_tree_plans.specs.Plan.{AreMeetings, IsTreePlan, judged_at, meeting_in, no_meeting, tree_of};
 ghost use Rattle.cn_tree_plans.specs.Teams.{AreProper, teams_of};
 
-use crate::judged::NodeJudged;
+use crate::judged::{JudgedList, NodeJudged};
 use crate::path::Path;
 use crate::{Judged, Meeting, Place, Teams, TreePlanFault};
 use cn_table::{Operation, Response, State, Table};
+use cn_tree_costs::laws::nodes_are_trees;
 use std::alloc::Global;
 use std::marker::Model;
 
@@ -132,16 +133,63 @@ impl TreePlan {
         // promise: parts-of-a-tree-plan
         ensures range { (1 ≤ length result.now) × (length result.now ≤ nodes_of (tree_of self.now)) }
     {
+        nodes_are_trees();
+        self.places(process)
+    }
+
+    /// The invariant.
+    fn is_plan(&self)
+        ensures { IsTreePlan self.now }
+    {
+        let _ = &self.judged;
+    }
+
+    /// The places of this path.
+    fn places(&self, process: u8) -> &[Place]
+        requires { process < processes_of (tree_of self.now) }
+        ensures { places_of result.now ≡ path_of (tree_of self.now) process }
+    {
         self.paths[usize::from(process)].places()
     }
 
+    /// The number of a process at a node to which it comes, counted from the first one there.
+    fn place(&self, node: u8, process: u8) -> u8
+        requires { Has (comes_to self.now.teams node) process }
+        ensures node { node < nodes_of (tree_of self.now) }
+        ensures number { result ≡ process - (node_at self.now.teams node).first }
+        ensures inside { result < members (node_at self.now.teams node).teams }
+    {
+        nodes_are_trees();
+        process - self.first_there(node)
+    }
+
+    fn first_there(&self, node: u8) -> u8
+        ensures { result ≡ (node_at self.now.teams node).first }
+    {
+        self.teams.first_at(node)
+    }
+
+    /// The teams of a node.
+    fn at(&self, node: u8) -> &Teams
+        requires { node < nodes_of (tree_of self.now) }
+        ensures teams { teams_of result.now ≡ (node_at self.now.teams node).teams }
+        ensures several { 2 ≤ length (sizes_of (teams_of result.now)) }
+        ensures count { length (sizes_of (teams_of result.now)) ≤ members (teams_of result.now) }
+        ensures few { ((node_at self.now.teams node).first + members (teams_of result.now)
+            ≤ members self.now.teams) × (members self.now.teams ≤ MOST_PROCESSES) }
+    {
+        self.teams.at(node)
+    }
+
     /// The meeting of a node.
+    // promise: parts-of-a-tree-plan
     pub fn meeting(&self, node: u8) -> &Meeting
         requires { node < nodes_of (tree_of self.now) }
-        // promise: parts-of-a-tree-plan
         ensures value { result.now ≡ slice_index_or self.now.meetings node no_meeting }
-        // promise: parts-of-a-tree-plan
         ensures start { result.now.start < length self.now.table.states }
+        ensures size { length result.now.operations ≡ members (node_at self.now.teams node).teams }
+        ensures operations { (k : ℕ) → k < members (node_at self.now.teams node).teams
+            → slice_index result.now.operations k < length self.now.table.operations }
     {
         &self.meetings[usize::from(node)]
     }
@@ -152,7 +200,7 @@ impl TreePlan {
         // promise: parts-of-a-tree-plan
         ensures { result ≡ (node_at self.now.teams node).first }
     {
-        self.teams.first_at(node)
+        self.first_there(node)
     }
 
     /// The number of processes that come to a node.
@@ -164,7 +212,7 @@ impl TreePlan {
         ensures range { (2 ≤ result)
             × ((node_at self.now.teams node).first + result ≤ processes_of (tree_of self.now)) }
     {
-        self.teams.at(node).members()
+        self.at(node).members()
     }
 
     /// The number of teams of a node.
@@ -175,7 +223,7 @@ impl TreePlan {
         // promise: parts-of-a-tree-plan
         ensures range { (2 ≤ result) × (result ≤ MOST_PROCESSES) }
     {
-        self.teams.at(node).count()
+        self.at(node).count()
     }
 
     /// The team of a process at a node to which it comes.
@@ -186,6 +234,7 @@ impl TreePlan {
         // promise: parts-of-a-tree-plan
         ensures range { result < length (sizes_of (node_at self.now.teams node).teams) }
     {
+        nodes_are_trees();
         for place in self.path(process) {
             if place.node == node {
                 return place.team;
@@ -203,8 +252,8 @@ impl TreePlan {
         // promise: parts-of-a-tree-plan
         ensures range { result.0 < length self.now.table.operations }
     {
-        let place = process - self.first(node);
-        self.meetings[usize::from(node)].operations[usize::from(place)]
+        let place = self.place(node, process);
+        self.meeting(node).operation(place)
     }
 
     /// The response to a process at a node to which it comes, in this state of the object, and the
@@ -236,8 +285,16 @@ impl TreePlan {
         // promise: judgements-of-a-tree-plan
         ensures { result.now ≡ judged_at self.now node process }
     {
-        let place = process - self.first(node);
-        self.judged[usize::from(node)].lists[usize::from(place)].entries()
+        self.list(node, process).entries()
+    }
+
+    /// The list of these.
+    fn list(&self, node: u8, process: u8) -> &JudgedList
+        requires { Has (comes_to self.now.teams node) process }
+        ensures { result.now ≡ judged_at self.now node process }
+    {
+        let place = self.place(node, process);
+        self.judged[usize::from(node)].list(place)
     }
 
     /// The team that a process judges to have come first at a node, by its response and by the
@@ -249,21 +306,34 @@ impl TreePlan {
         // promise: judgements-of-a-tree-plan
         ensures range { result < length (sizes_of (node_at self.now.teams node).teams) }
     {
-        let place = process - self.first(node);
-        self.judged[usize::from(node)].lists[usize::from(place)].team(response, state)
+        nodes_are_trees();
+        self.is_plan();
+        self.list(node, process).team(response, state)
     }
 
     /// The own steps of a process: three at each node of its path, or four where it reads.
     pub fn steps(&self, process: u8) -> u8
         requires { process < processes_of (tree_of self.now) }
         // promise: cost-of-a-tree-plan
-        ensures { result ≡ steps_of (tree_of self.now) process }
+        ensures number { result ≡ steps_of (tree_of self.now) process }
+        // promise: cost-of-a-tree-plan
+        ensures range { (3 ≤ result) × (result ≤ 28) }
     {
+        self.is_plan();
         let mut steps = 0;
         for place in self.path(process) {
-            steps += if self.reads(place.node) { 4 } else { 3 };
+            steps += self.steps_at(place.node);
         }
         steps
+    }
+
+    /// The own steps of a process at a node.
+    fn steps_at(&self, node: u8) -> u8
+        requires { node < nodes_of (tree_of self.now) }
+        ensures number { (p : ℕ) → (if looks_at (tree_of self.now) node p then 4 else 3) ≡ result }
+        ensures range { (3 ≤ result) × (result ≤ 4) }
+    {
+        if self.reads(node) { 4 } else { 3 }
     }
 
     /// What the plan costs.

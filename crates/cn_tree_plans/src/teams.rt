@@ -29,6 +29,13 @@ impl Teams {
         }
     }
 
+    /// A law: a node of several teams has several processes.
+    pub(crate) fn has_several(&self)
+        requires below { AreSeveralBelow (teams_of self.now) }
+        requires here { 2 ≤ length (sizes_of (teams_of self.now)) }
+        ensures { 2 ≤ members (teams_of self.now) }
+    {}
+
     /// How many nodes there are below.
     pub(crate) fn nodes_below(&self) -> u8
         requires { nodes_in (teams_of self.now) < 2 ^ 8 }
@@ -75,6 +82,7 @@ impl Teams {
     }
 
     /// The first process of this node.
+    #[tactic(auto, using(crate::proofs::TeamLemmas::within_below))]
     fn first_below(&self, v: u8) -> u8
         requires few { members (teams_of self.now) < 2 ^ 8 }
         requires nodes { nodes_in (teams_of self.now) < 2 ^ 8 }
