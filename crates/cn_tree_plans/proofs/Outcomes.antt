@@ -1,5 +1,5 @@
 -- Outcome sets of a choice as what its processes are shown.
-use Rattle.std.proofs.Common.{ℕ, zero, suc, ◌≡◌, ◌≢◌, ◌+◌, ◌<◌, ◌≤◌, Bool, true, false, List, [], ◌∷◌, ◌++◌, length, map, replicate, slice_get, slice_index, Some, None, Option, option_map, unwrap_or, get_or, length-append, nat_eq, nat_lt, refl, sym, ap, ◌∙◌, subst, arith, if◌then◌else◌}
+use Rattle.std.proofs.Common.{ℕ, zero, suc, ◌≡◌, ◌≢◌, ◌+◌, ◌<◌, Bool, true, false, List, [], ◌∷◌, ◌++◌, length, replicate, slice_get, slice_index, Some, None, Option, option_map, unwrap_or, get_or, length-append, nat_eq, nat_lt, refl, sym, ap, ◌∙◌, subst, arith, if◌then◌else◌}
 use Rattle.std.proofs.lemmas.Bool.Decides.{nat_tests}
 use Rattle.std.proofs.lemmas.List.Elements.{All-get_or}
 use Rattle.std.proofs.lemmas.Option.{slice_get_within, unwrap_or-slice_get}
@@ -17,7 +17,7 @@ use Rattle.cn_choice.proofs.OrderLemmas.AllOrders.{differ_from}
 use Rattle.cn_proto.specs.Order.{IsAnswered, IsRun, after, answers}
 use Rattle.cn_proto.specs.Tournament.{team_of}
 use Rattle.cn_meetings.specs.Choices.{choice_meeting, choice_processes, choice_team}
-use Rattle.cn_meetings.specs.Meeting.{Meeting, Sight, act, see, sees}
+use Rattle.cn_meetings.specs.Meeting.{Meeting, Sight, sees}
 use Rattle.cn_meetings.specs.Witness.{BeginsIn, Has, IsOrderOf, IsShown}
 use Rattle.cn_meetings.proofs.Orders.{below}
 
@@ -50,7 +50,7 @@ into_outcomes outcomes t c sight [] j response saw shown begins = elim begins [ 
 into_outcomes outcomes t c sight (p ∷ order) j response saw shown begins = (
   after (move_of t (raw_choice_of c)) c.state (p ∷ order),
   outcomes t c A (p ∷ order) j response
-  (record { distinct = shown.is_order.distinct; below = below (choice_processes c) (length c.a + length c.b) (few c) (p ∷ order) shown.is_order; begins = in_team_a (length c.a) p (first (nat_lt p (length c.a)) refl begins) }) shown.answered,
+      (record { distinct = shown.is_order.distinct; below = below (choice_processes c) (length c.a + length c.b) (few c) (p ∷ order) shown.is_order; begins = in_team_a (length c.a) p (first (nat_lt p (length c.a)) refl begins) }) shown.answered,
   shown.last_state,
 )
   where
@@ -102,9 +102,9 @@ order_from : (n : ℕ) (processes : ℕ → Bool) (order : List ℕ) → ((p : �
 order_from n processes order has is = record {
   distinct = AllPairs-from_Pairs (λ x y. x ≢ y) order (differ_from order is.distinct);
   members = λ k p e. (
-    let l = slice_get_within order k p e in
-    let at : get_or order k 0 ≡ p = sym (unwrap_or-slice_get order k 0) ∙ ap (λ o. unwrap_or o 0) e in
-    has p (subst (λ (x : ℕ). x < n) at (All-get_or (λ x. x < n) order k 0 l is.known)));
+      let l = slice_get_within order k p e in
+      let at : get_or order k 0 ≡ p = sym (unwrap_or-slice_get order k 0) ∙ ap (λ o. unwrap_or o 0) e in
+      has p (subst (λ (x : ℕ). x < n) at (All-get_or (λ x. x < n) order k 0 l is.known)));
 }
 
 pub out_of_outcomes : Pairs → (t : TypeTable) (c : Choice) (sight : Sight) (j response q : ℕ) → InOutcomeSet t (raw_choice_of c) A j (response, q)

@@ -1,5 +1,5 @@
 -- Plan trees in memory.
-use Rattle.std.proofs.Common.{ℕ, zero, suc, ◌≡◌, ◌↔◌, ◌⊎◌, inl, inr, ◌+◌, ◌-◌, ◌<◌, ◌≤◌, Bool, true, false, ◌&&◌, AllPairs, List, [], ◌∷◌, ◌++◌, get_or, length, map, nat_eq, nat_lt, slice_index_or, Option, Some, None, refl, sym, ap, ◌∙◌, subst, arith, if◌then◌else◌, add-one, length-append}
+use Rattle.std.proofs.Common.{ℕ, zero, suc, ◌≡◌, ◌↔◌, ◌⊎◌, inl, inr, ◌+◌, ◌-◌, ◌<◌, ◌≤◌, Bool, true, false, ◌&&◌, AllPairs, List, [], ◌∷◌, ◌++◌, get_or, length, nat_eq, nat_lt, slice_index_or, Option, Some, None, refl, sym, ap, ◌∙◌, subst, arith, if◌then◌else◌, add-one, length-append}
 use Rattle.std.specs.Prelude.{◌==◌, Contains, find, sum}
 use Rattle.std.specs.Option.{option_map_or}
 use Rattle.std.proofs.Math.Seq.{get_or-append_seam}
@@ -16,7 +16,7 @@ use Rattle.cn_trees.specs.Steps.{looks_at}
 use Rattle.cn_trees.specs.Tree.{IsOfType, IsPlace, IsPlanTree, Place, PlanTree, Teams, comes_to, members, nodes_in, path_in, path_of, place_of as place_in, team_in}
 use Rattle.cn_trees.specs.Tree.Teams.{Alone, Last, Meet}
 use Rattle.cn_trees.proofs.Paths.{path_short}
-use Rattle.cn_trees.proofs.Places.{Came, came, come, node_known, starts, team_there}
+use Rattle.cn_trees.proofs.Places.{came, come, node_known, starts, team_there}
 use Rattle.cn_tree_costs.specs.Cost.{IsUniform}
 use Rattle.cn_tree_costs.specs.Nodes.{IsAmong, node_at}
 use Rattle.cn_tree_costs.specs.Sizes.{block, sizes_of}
@@ -214,8 +214,8 @@ module _ (comes_is : ComesIs) (plan : TreePlan) (is : IsTreePlan plan) where
   of_type = record {
     starts = λ v. starts_known v (cases_lt v (1 + nodes_in plan.teams));
     operations = λ v p h. (
-      let among = (comes_is plan.teams v p).0 h in let a = among.0 in let b = among.1 in
-      is.fits.operations v (p - (node_at plan.teams v).first) (node_there plan.teams v p h) (omega arith));
+        let among = (comes_is plan.teams v p).0 h in let a = among.0 in let b = among.1 in
+        is.fits.operations v (p - (node_at plan.teams v).first) (node_there plan.teams v p h) (omega arith));
     sights = λ v p h. sight_known (slice_index_or plan.meetings v no_meeting).reads;
   }
 

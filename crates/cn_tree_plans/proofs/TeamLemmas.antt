@@ -1,5 +1,5 @@
 -- Teams, their nodes and the levels below.
-use Rattle.std.proofs.Common.{ℕ, zero, suc, ◌≡◌, ◌+◌, ◌-◌, ◌<◌, ◌≤◌, Bool, true, false, max, length, refl, arith, nat_lt, if◌then◌else◌}
+use Rattle.std.proofs.Common.{ℕ, zero, suc, ◌≡◌, ◌+◌, ◌-◌, ◌<◌, ◌≤◌, Bool, true, false, length, refl, arith, nat_lt, if◌then◌else◌}
 use Rattle.std.proofs.lemmas.Bool.Decides.{nat_tests}
 use Rattle.cn_trees.specs.Tree.{Teams, levels, members, nodes_in}
 use Rattle.cn_trees.specs.Tree.Teams.{Alone, Last, Meet}

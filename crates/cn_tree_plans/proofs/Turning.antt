@@ -1,5 +1,5 @@
 -- A team of a node against the others, as the two teams of a choice.
-use Rattle.std.proofs.Common.{ℕ, zero, suc, ◌≡◌, ◌↔◌, ◌+◌, ◌-◌, ◌<◌, ◌≤◌, Bool, true, false, List, ◌++◌, length, drop, take, get_or, slice_index, slice_index_or, nat_lt, refl, sym, ap, ◌∙◌, subst, arith, if◌then◌else◌, length-append, length-drop}
+use Rattle.std.proofs.Common.{ℕ, ◌≡◌, ◌↔◌, ◌+◌, ◌-◌, ◌<◌, ◌≤◌, Bool, true, false, List, length, drop, take, get_or, slice_index, slice_index_or, nat_lt, refl, sym, ap, ◌∙◌, arith, if◌then◌else◌, length-append, length-drop}
 use Rattle.std.proofs.lemmas.Bool.Decides.{nat_tests}
 use Rattle.std.proofs.lemmas.List.{get_or-append_right, get_or-drop, get_or-take, get_or_append_left, length-take-le}
 use Rattle.cn_table.specs.TypeTable.{TypeTable}
@@ -7,9 +7,9 @@ use Rattle.cn_choice.specs.Canonical.{Choice, raw_choice_of}
 use Rattle.cn_choice.specs.OutcomeSets.{InOutcomeSet}
 use Rattle.cn_choice.specs.declared.team.Team.TheVariants.{A}
 use Rattle.cn_meetings.specs.Choices.{choice_processes, choice_team}
-use Rattle.cn_meetings.specs.Meeting.{Meeting, Sight, sees}
+use Rattle.cn_meetings.specs.Meeting.{Sight, sees}
 use Rattle.cn_meetings.specs.Meeting.Sight.{Nothing, State}
-use Rattle.cn_meetings.specs.Witness.{BeginsIn, Has, IsShown}
+use Rattle.cn_meetings.specs.Witness.{Has}
 use Rattle.cn_trees.specs.Tree.{Teams, comes_to, members, team_in}
 use Rattle.cn_tree_costs.specs.Nodes.{IsAmong, Node, node_at}
 use Rattle.cn_tree_plans.specs.Plan.{IsShownBy, NodeMeeting, meeting_in, no_meeting, tree_with}
@@ -97,16 +97,16 @@ module _ (m : NodeMeeting) (low high : ℕ) (le : low ≤ high) (ln : high ≤ l
       → slice_index (raw_choice_of (turned m low high)).operations (role_of low high k) ≡ slice_index m.operations k
   same_operation k lk = three (λ j. slice_index (raw_choice_of (turned m low high)).operations j ≡ slice_index m.operations k) low high ((high - low) + k) (k - low) k k
       (λ l. (let e : (high - low) + k - (high - low) ≡ k = omega arith in
-          get_or-append_right (turned m low high).a (turned m low high).b (high - low) ((high - low) + k) 0 length_a (omega arith)
-          ∙ (ap (λ i. get_or (turned m low high).b i 0) e ∙ (get_or_append_left (take low m.operations) (drop high m.operations) 0 k (omega (arith, length_low))
-          ∙ get_or-take low m.operations k 0 l))))
+      get_or-append_right (turned m low high).a (turned m low high).b (high - low) ((high - low) + k) 0 length_a (omega arith)
+      ∙ (ap (λ i. get_or (turned m low high).b i 0) e ∙ (get_or_append_left (take low m.operations) (drop high m.operations) 0 k (omega (arith, length_low))
+      ∙ get_or-take low m.operations k 0 l))))
       (λ l u. (let e : low + (k - low) ≡ k = omega arith in
-          get_or_append_left (turned m low high).a (turned m low high).b 0 (k - low) (omega (arith, length_a))
-          ∙ (get_or-take (high - low) (drop low m.operations) (k - low) 0 (omega arith) ∙ (get_or-drop low m.operations (k - low) 0 ∙ ap (λ i. get_or m.operations i 0) e))))
+      get_or_append_left (turned m low high).a (turned m low high).b 0 (k - low) (omega (arith, length_a))
+      ∙ (get_or-take (high - low) (drop low m.operations) (k - low) 0 (omega arith) ∙ (get_or-drop low m.operations (k - low) 0 ∙ ap (λ i. get_or m.operations i 0) e))))
       (λ l u. (let e : high + (k - (high - low) - low) ≡ k = omega arith in
-          get_or-append_right (turned m low high).a (turned m low high).b (high - low) k 0 length_a (omega arith)
-          ∙ (get_or-append_right (take low m.operations) (drop high m.operations) low (k - (high - low)) 0 length_low (omega arith)
-          ∙ (get_or-drop high m.operations (k - (high - low) - low) 0 ∙ ap (λ i. get_or m.operations i 0) e))))
+      get_or-append_right (turned m low high).a (turned m low high).b (high - low) k 0 length_a (omega arith)
+      ∙ (get_or-append_right (take low m.operations) (drop high m.operations) low (k - (high - low)) 0 length_low (omega arith)
+      ∙ (get_or-drop high m.operations (k - (high - low) - low) 0 ∙ ap (λ i. get_or m.operations i 0) e))))
 
 -- ---- what processes are shown
 module _ (outcomes : Outcomes) (pairs : Pairs) (comes_is : (s : Teams) (v p : ℕ) → Has (comes_to s v) p ↔ IsAmong (node_at s v) p)
@@ -183,8 +183,9 @@ module _ (outcomes : Outcomes) (pairs : Pairs) (comes_is : (s : Teams) (v p : �
           (begins_carried t (looking sight w) (meeting_in s meetings v) (choice_processes w) (comes_to s v) (λ p. role_of low high (p - x.first)) there (team_in s v) (choice_team w) g 0 shown.0 shown.1.is_order begins_there shown.2),
       λ seen. (let out = out_of_outcomes pairs t w sight (role_of low high (p - x.first)) r seen.0 seen.1 in
           let a = ((comes_is s v p).0 h).0 in
-          let e : x.first + process_of low high (role_of low high (p - x.first)) ≡ p = omega (arith, back low high (p - x.first) le) in
-          (_,
-          rw (e, seen.2) at (shown_carried t (meeting_in s meetings v) (looking sight w) (comes_to s v) (choice_processes w) (λ j. x.first + process_of low high j) home out.0 (role_of low high (p - x.first)) r _ out.1),
-          begins_carried t (meeting_in s meetings v) (looking sight w) (comes_to s v) (choice_processes w) (λ j. x.first + process_of low high j) home (choice_team w) (team_in s v) 0 g out.0 out.1.is_order (λ j hj e. begins_home j hj e) out.2)),
+          let e : x.first + process_of low high (role_of low high (p - x.first)) ≡ p = omega (arith, back low high (p - x.first) le) in (
+            _,
+            rw (e, seen.2) at (shown_carried t (meeting_in s meetings v) (looking sight w) (comes_to s v) (choice_processes w) (λ j. x.first + process_of low high j) home out.0 (role_of low high (p - x.first)) r _ out.1),
+            begins_carried t (meeting_in s meetings v) (looking sight w) (comes_to s v) (choice_processes w) (λ j. x.first + process_of low high j) home (choice_team w) (team_in s v) 0 g out.0 out.1.is_order (λ j hj e. begins_home j hj e) out.2,
+          )),
     )

@@ -1,5 +1,5 @@
 -- What making a plan tree answers.
-use Rattle.std.specs.Prelude.{◌≡◌, ◌≢◌, ◌+◌, ◌<◌, ℕ, List, Result, Ok, Err}
+use Rattle.std.specs.Prelude.{◌≡◌, ◌≢◌, ◌<◌, ℕ, List, Result, Ok, Err}
 use Rattle.cn_table.specs.TypeTable.{TypeTable}
 use Rattle.cn_meetings.specs.Witness.{Has, IsTeamWitness}
 use Rattle.cn_trees.specs.Tree.{AreWitnesses, PlanTree, Teams, comes_to, nodes_of, team_in}

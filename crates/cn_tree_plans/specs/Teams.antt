@@ -1,5 +1,5 @@
 -- The teams of a node in memory, and which teams a plan tree in memory has.
-use Rattle.std.specs.Prelude.{ℕ, ◌≤◌, length}
+use Rattle.std.specs.Prelude.{◌≤◌, length}
 use Rattle.cn_trees.specs.Tree.{Teams}
 use Rattle.cn_trees.specs.Tree.Teams.{Alone, Last, Meet}
 use Rattle.cn_tree_costs.specs.Sizes.{sizes_of}

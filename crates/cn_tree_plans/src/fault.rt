@@ -9,10 +9,7 @@ use std::alloc::{AllocError, AllocFailed};
 pub enum TreePlanFault {
     /// The node is the first one that is no witness, and the process its least one to which two
     /// teams show the same.
-    Meets {
-        node: u8,
-        process: u8,
-    },
+    Meets { node: u8, process: u8 },
     /// Memory ran out.
     OutOfMemory,
 }

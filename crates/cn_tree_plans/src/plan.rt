@@ -64,11 +64,11 @@ impl Model for TreePlan {
     } };
 
     ghost invariant = { λ p. IsTreePlan (record {
-          table = p.table;
-          teams = teams_of p.teams;
-          meetings = p.meetings.items;
-          judged = p.judged.items;
-        })
+      table = p.table;
+      teams = teams_of p.teams;
+      meetings = p.meetings.items;
+      judged = p.judged.items;
+    })
         × ArePaths (teams_of p.teams) p.paths.items };
 }
 

@@ -110,7 +110,11 @@ impl Teams {
         requires nodes { nodes_in (teams_of self.now) < 2 ^ 8 }
         ensures { teams_of result.now ≡ (node_at (teams_of self.now) node).teams }
     {
-        if node == 0 { self } else { self.below(node - 1) }
+        if node == 0 {
+            self
+        } else {
+            self.below(node - 1)
+        }
     }
 
     /// The first process of this node.
@@ -119,6 +123,10 @@ impl Teams {
         requires nodes { nodes_in (teams_of self.now) < 2 ^ 8 }
         ensures { result ≡ (node_at (teams_of self.now) node).first }
     {
-        if node == 0 { 0 } else { self.first_below(node - 1) }
+        if node == 0 {
+            0
+        } else {
+            self.first_below(node - 1)
+        }
     }
 }

@@ -1,6 +1,6 @@
-use Rattle.std.proofs.Common.{◌≡◌, ap, arith, rules, subst, ◌∙◌}
+use Rattle.std.proofs.Common.{◌≡◌, ap, arith, subst, ◌∙◌}
 use Rattle.cn_trees.specs.Tree.{Teams}
-use Rattle.cn_tree_costs.specs.Nodes.{Node, node_at}
+use Rattle.cn_tree_costs.specs.Nodes.{node_at}
 use Rattle.cn_tree_plans.specs.Plan.{IsTreePlan, TreePlan}
 use Rattle.cn_tree_plans.specs.Teams.{teams_of}
 use Rattle.cn_tree_plans.proofs.TeamLemmas.{proper_at, several_bound, within}

@@ -1,5 +1,3 @@
-use Rattle.std.proofs.Common.{subst}
-use Rattle.cn_tree_plans.specs.Plan.{IsTreePlan, TreePlan}
 use Rattle.cn_tree_plans.proofs.PlanLemmas.{judged_inside}
 use Rattle.cn_tree_plans.proofs.plan.TreePlan.judge.Goals as goal
 

@@ -9,7 +9,7 @@ returns-clause-known c =
 pub returns-clause-range : goal.returns-clause-range
 returns-clause-range c = (
   some_place c.nodes_are_trees.ensures.processes c.nodes_are_trees.ensures.teams
-  c.args.self.now.teams c.args.process c.places.result.now c.requires c.places.ensures,
+      c.args.self.now.teams c.args.process c.places.result.now c.requires c.places.ensures,
   few_places c.nodes_are_trees.ensures.processes c.nodes_are_trees.ensures.teams
-  c.args.self.now.teams c.args.process c.places.result.now c.requires c.places.ensures,
+      c.args.self.now.teams c.args.process c.places.result.now c.requires c.places.ensures,
 )

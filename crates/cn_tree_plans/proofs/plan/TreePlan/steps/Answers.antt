@@ -1,5 +1,4 @@
-use Rattle.std.proofs.Common.{◌≡◌, ◌+◌, ◌∙◌, ap, arith, ℕ}
-use Rattle.cn_trees.specs.Consensus.{steps_before}
+use Rattle.std.proofs.Common.{arith}
 use Rattle.cn_tree_plans.specs.Plan.{tree_of}
 use Rattle.cn_tree_plans.proofs.PlanLemmas.{few_nodes, place_is, steps_next}
 use Rattle.cn_tree_plans.proofs.plan.TreePlan.steps.Goals as goal
@@ -18,8 +17,8 @@ loop-place-preserved c =
     let most = i.most in
     let exact = i.exact in
     let next = steps_next (tree_of c.args.self.now) c.args.process c.loop-place.place-index _ c.steps_at-steps.result
-        (place_is (tree_of c.args.self.now) c.args.process c.path-place-items.result.now c.path-place-items.ensures.places c.loop-place.place-index (record { node = 0; team = 0 }) c.loop-place-test.true)
-        (c.steps_at-steps.ensures.number c.args.process) in
+    (place_is (tree_of c.args.self.now) c.args.process c.path-place-items.result.now c.path-place-items.ensures.places c.loop-place.place-index (record { node = 0; team = 0 }) c.loop-place-test.true)
+    (c.steps_at-steps.ensures.number c.args.process) in
     record {
       exact = omega arith;
       least = omega arith;
