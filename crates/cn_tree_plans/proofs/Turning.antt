@@ -73,7 +73,7 @@ forth low high j le = three (λ k. role_of low high k ≡ j) (high - low) high (
     (λ l m. role_first low high (j - (high - low)) (omega arith) ∙ omega arith)
     (λ l m. role_last low high j (omega arith) m)
 
-role_below : (n low high k : ℕ) → low ≤ high → high ≤ n → k < n → role_of low high k < n
+pub role_below : (n low high k : ℕ) → low ≤ high → high ≤ n → k < n → role_of low high k < n
 role_below n low high k le ln lk = three (λ j. j < n) low high ((high - low) + k) (k - low) k k (λ l. omega arith) (λ l m. omega arith) (λ l m. lk)
 
 process_below : (n low high j : ℕ) → low ≤ high → high ≤ n → j < n → process_of low high j < n

@@ -30,6 +30,12 @@ impl Model for JudgedList {
 }
 
 impl JudgedList {
+    pub(crate) fn of(entries: Vec<Judged>) -> JudgedList
+        ensures { result ≡ entries.items }
+    {
+        JudgedList { entries }
+    }
+
     pub(crate) fn entries(&self) -> &[Judged]
         ensures { result.now ≡ self.now }
     {
@@ -74,6 +80,12 @@ impl Model for NodeJudged {
 }
 
 impl NodeJudged {
+    pub(crate) fn of(lists: Vec<JudgedList>) -> NodeJudged
+        ensures { result ≡ lists.items }
+    {
+        NodeJudged { lists }
+    }
+
     /// The list of the process with this number, counted from the first one of the node.
     pub(crate) fn list(&self, place: u8) -> &JudgedList
         requires { place < length self.now }

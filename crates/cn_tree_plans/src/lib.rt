@@ -18,10 +18,12 @@
 mod fault;
 mod judged;
 pub mod laws;
+mod making;
 mod meeting;
 mod path;
 mod place;
 mod plan;
+mod shown;
 mod teams;
 
 pub use fault::TreePlanFault;

@@ -1,5 +1,5 @@
 //! Meetings.
-ghost use Rattle.std.specs.Prelude.{◌≡◌, ◌<◌, length, slice_index};
+ghost use Rattle.std.specs.Prelude.{◌≡◌, ◌<◌, ◌^◌, length, slice_index};
 
 use cn_table::{Operation, State};
 use std::marker::Model;
@@ -29,6 +29,14 @@ impl Model for Meeting {
 }
 
 impl Meeting {
+    /// The number of its processes.
+    pub(crate) fn size(&self) -> u8
+        requires { length self.now.operations < 2 ^ 8 }
+        ensures { result ≡ length self.now.operations }
+    {
+        self.operations.len() as u8
+    }
+
     /// The operation of the process with this number, counted from the first one of the node.
     pub(crate) fn operation(&self, place: u8) -> Operation
         requires { place < length self.now.operations }

@@ -15,7 +15,8 @@ ghost use Rattle.cn_tree_plans.specs.Plan.{AreMeetings, IsTreePlan, judged_at, m
 ghost use Rattle.cn_tree_plans.specs.Teams.{AreProper, teams_of};
 
 use crate::judged::{JudgedList, NodeJudged};
-use crate::path::Path;
+use crate::making::all_judged;
+use crate::path::{Path, all_paths};
 use crate::{Judged, Meeting, Place, Teams, TreePlanFault};
 use cn_table::{Operation, Response, State, Table};
 use cn_tree_costs::laws::nodes_are_trees;
@@ -91,8 +92,18 @@ impl TreePlan {
         // promise: tree-plans-are-made (IsMade)
         ensures { IsMade table.now (teams_of teams) meetings.items result }
     {
-        let _ = (alloc, table, teams, meetings);
-        Err(TreePlanFault::OutOfMemory)
+        // A table is a table of a type.
+        let _states = table.states();
+        let judged = all_judged(alloc, table, &teams, &meetings)?;
+        let paths = all_paths(alloc, &teams)?;
+        let table = table.copy(alloc)?;
+        Ok(TreePlan {
+            table,
+            teams,
+            meetings,
+            judged,
+            paths,
+        })
     }
 
     /// The type of the objects at the nodes.

@@ -1,9 +1,11 @@
 //! The teams of a node.
-ghost use Rattle.std.specs.Prelude.{◌≡◌, ◌+◌, ◌≤◌, ◌<◌, ◌^◌, length};
+ghost use Rattle.std.specs.Prelude.{◌≡◌, ◌+◌, ◌++◌, ◌≤◌, ◌<◌, ◌^◌, length, IfOk, OnOk};
 ghost use Rattle.cn_trees.specs.Tree.{members, nodes_in};
 ghost use Rattle.cn_tree_costs.specs.Nodes.{node_at, node_below};
 ghost use Rattle.cn_tree_costs.specs.Sizes.{sizes_of};
 ghost use Rattle.cn_tree_plans.specs.Teams.{AreSeveralBelow, teams_of};
+
+use std::alloc::{AllocError, Global};
 
 /// The teams of a node, one after the other.
 #[derive(Debug, Drop)]
@@ -128,5 +130,33 @@ impl Teams {
         } else {
             self.first_below(node - 1)
         }
+    }
+
+    /// The sizes of the teams.
+    pub(crate) fn sizes(&self, alloc: Global) -> Result<Vec<u8>, AllocError>
+        requires { members (teams_of self.now) < 2 ^ 8 }
+        ensures { IfOk result (λ sizes. sizes.items ≡ sizes_of (teams_of self.now)) }
+    {
+        let mut sizes = Vec::new(alloc);
+        self.push_sizes(&mut sizes)?;
+        Ok(sizes)
+    }
+
+    fn push_sizes(&self, sizes: &mut Vec<u8>) -> Result<(), AllocError>
+        requires { members (teams_of self.now) < 2 ^ 8 }
+        ensures { OnOk result (sizes.new.items ≡ sizes.old.items ++ sizes_of (teams_of self.now)) }
+    {
+        match self {
+            Teams::Last => {}
+            Teams::Alone(rest) => {
+                sizes.push(1)?;
+                rest.push_sizes(sizes)?;
+            }
+            Teams::Meet(team, rest) => {
+                sizes.push(team.members())?;
+                rest.push_sizes(sizes)?;
+            }
+        }
+        Ok(())
     }
 }
