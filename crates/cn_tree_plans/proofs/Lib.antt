@@ -1,0 +1,10 @@
+pub mod Carrying
+pub mod ListingLemmas
+pub mod MakingLemmas
+pub mod NodeLemmas
+pub mod Outcomes
+pub mod PlanLemmas
+pub mod ShownLemmas
+pub mod SizeLemmas
+pub mod TeamLemmas
+pub mod Turning
