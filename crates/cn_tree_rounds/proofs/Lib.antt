@@ -1,0 +1,7 @@
+pub mod Lists
+pub mod TeamCounts
+pub mod Storing
+pub mod Keeping
+pub mod Schedules
+pub mod Deciding
+pub mod Telling
