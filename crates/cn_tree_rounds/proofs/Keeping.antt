@@ -8,6 +8,7 @@ use Rattle.std.proofs.lemmas.List.Elements.{All-from_get_or, All-set}
 use Rattle.std.proofs.lemmas.List.FromFn.{get_or-map-range_with_len, length-map-range_with_len}
 use Rattle.std.proofs.Math.ListN as lists
 use Rattle.cn_choice.specs.declared.limits.TheConstants.{MOST_PROCESSES}
+use Rattle.cn_meetings.specs.Meeting.{act}
 use Rattle.cn_trees.specs.Steps.{Local, Stage, behind, looks_at, onward, onward_if_found}
 use Rattle.cn_trees.specs.Steps.Local.{Active, Decided}
 use Rattle.cn_trees.specs.Steps.Stage.{Write, Apply, Look, Take}
@@ -43,7 +44,7 @@ first_of_plan plan is nodes locals inputs many n l =
         let within : v < nodes_of (tree_of plan) = omega arith in
         let e : get_or nodes v (first_node plan 0) ≡ first_node plan v =
         ap (λ (xs : List Node). get_or xs v (first_node plan 0)) n ∙ get_or-map-range_with_len (first_node plan) 0 (nodes_of (tree_of plan)) v v (first_node plan 0) within (omega arith) in
-        subst (FitsType plan) (sym e) (record { state = is.fits.starts v within; registers = lists.length-replicate MOST_PROCESSES None })
+        subst (FitsType plan) (sym e) (record { state = is.fits.starts v within; registers = (let none : Option ℕ = None in lists.length-replicate MOST_PROCESSES none) })
 
 -- ---- after a step
 node_fits : (plan : TreePlan) (p x : ℕ) (here : Place) (s : Stage) (node : Node) → length node.registers ≡ MOST_PROCESSES → length (node_at (tree_of plan) p here x s node).registers ≡ MOST_PROCESSES
@@ -66,7 +67,7 @@ found_well T p i x response saw (Some y) lt = onward_well T p i y (nat_lt (i + 1
 
 local_well : (T : PlanTree) (p i x : ℕ) (here : Place) (s : Stage) (node : Node) → i < length (path_of T p) → here ≡ place_of T p i → IsUnderWay T p (local_at T p i here x s node)
 local_well T p i x here Write node lt e = (lt, tt)
-local_well T p i x here Apply node lt e = (lt, rw (← e) (behind_looks T p here _ (looks_at T here.node p) refl))
+local_well T p i x here Apply node lt e = (lt, rw (← e) (behind_looks T p here (act T.table (T.meeting here.node) p node.state.0).0 (looks_at T here.node p) refl))
 local_well T p i x here (Look response) node lt e = (lt, tt)
 local_well T p i x here (Take response saw) node lt e = found_well T p i x response saw (register node (T.judge here.node p response saw)) lt
 
@@ -82,10 +83,10 @@ step_of_plan plan nodes locals p turn node node' next of is mine fits n state l 
   }) of.each_node;
   each_process = λ q lt. elim (cases_eq q p) [
     | inl e ↦ (let within : p < length locals = (let m = of.process_count in omega arith) in
-        let there : local_in (set locals p next) q ≡ local_after plan turn node = ap (local_in (set locals p next)) e ∙ ap local_of (get_or-set_same locals p next _ within) ∙ l in
+        let there : local_in (set locals p next) q ≡ local_after plan turn node = ap (local_in (set locals p next)) e ∙ ap local_of (get_or-set_same locals p next (local.Active 0 0 stage.Write) within) ∙ l in
         let T = tree_of plan in
         let self : q ≡ turn.process = e ∙ sym mine in
         rw (there, self) (local_well T turn.process turn.place turn.value (place_stored turn.here) (stage_of turn.stage) node (rw (← is.places) is.place) is.here))
-    | inr ne ↦ subst (IsUnderWay (tree_of plan) q) (sym (ap local_of (get_or-set_other locals p q next _ ne))) (of.each_process q lt)
+    | inr ne ↦ subst (IsUnderWay (tree_of plan) q) (sym (ap local_of (get_or-set_other locals p q next (local.Active 0 0 stage.Write) ne))) (of.each_process q lt)
   ];
 }

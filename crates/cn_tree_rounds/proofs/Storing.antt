@@ -1,8 +1,9 @@
 -- The world in memory stands for that of the model: at first, and after a step.
-use Rattle.std.proofs.Common.{ℕ, zero, suc, ◌≡◌, ◌+◌, ◌<◌, List, [], ◌∷◌, length, map, set, replicate, get_or, Option, Some, None, refl, sym, ap, ◌∙◌, inl, inr, arith}
+use Rattle.std.proofs.Common.{ℕ, zero, suc, ◌≡◌, ◌+◌, ◌<◌, List, [], ◌∷◌, ◌++◌, length, map, set, replicate, get_or, slice_index_or, Option, Some, None, refl, sym, ap, ◌∙◌, inl, inr, arith}
 use Rattle.std.specs.List.{range_with_len}
 use Rattle.std.proofs.lemmas.Bool.{cases_lt}
 use Rattle.std.proofs.lemmas.List.{get_or_past}
+use Rattle.std.proofs.lemmas.List.FromFn.{map-range_with_len_more}
 use Rattle.std.proofs.Math.ListN as lists
 use Rattle.cn_choice.specs.declared.limits.TheConstants.{MOST_PROCESSES}
 use Rattle.cn_unread.specs.Functions.{put}
@@ -12,7 +13,7 @@ use Rattle.cn_trees.specs.Steps.Local.{Active}
 use Rattle.cn_trees.specs.Steps.Stage.{Write, Apply, Look, Take}
 use Rattle.cn_trees.specs.Tree.{Place, nodes_of, path_of, place_of}
 use Rattle.cn_tree_plans.specs.Paths.{place_of as place_stored}
-use Rattle.cn_tree_plans.specs.Plan.{TreePlan, meeting_in, tree_of}
+use Rattle.cn_tree_plans.specs.Plan.{NodeMeeting, TreePlan, meeting_in, no_meeting, tree_of}
 use Rattle.cn_tree_rounds.specs.Schedules.{input_of}
 use Rattle.cn_tree_rounds.specs.Turns.{IsTurn, local_after, local_at, node_after, node_at}
 use Rattle.cn_tree_rounds.specs.Worlds.{fresh_node, local_in, local_of, node_in, register, stage_of, world_with}
@@ -48,6 +49,13 @@ first_is plan nodes locals inputs n l =
       locals = λ p. there p d;
     }
 
+pub one_more_node : (plan : TreePlan) (k : ℕ) (done done' : List Node) (node : Node) (start : ℕ) (m : NodeMeeting) → done ≡ map (first_node plan) (range_with_len 0 k) → done' ≡ done ++ node ∷ []
+    → node ≡ fresh_node start → start ≡ m.start → m ≡ slice_index_or plan.meetings k no_meeting → done' ≡ map (first_node plan) (range_with_len 0 (k + 1))
+one_more_node plan k done done' node start m was more made starts read =
+    let there : node ≡ first_node plan k = made ∙ ap fresh_node (starts ∙ ap (λ (x : NodeMeeting). x.start) read) in
+    more ∙ ap (λ (xs : List Node). xs ++ node ∷ []) was ∙ ap (λ (x : Node). map (first_node plan) (range_with_len 0 k) ++ x ∷ []) there
+    ∙ sym (map-range_with_len_more (first_node plan) 0 k k (omega arith))
+
 -- ---- after a step
 -- the world with another node and another process
 abbrev changed : World ℕ → ℕ → ℕ → (ℕ → Option ℕ) → ℕ → Local ℕ → World ℕ
@@ -72,9 +80,11 @@ action_is : (plan : TreePlan) (w : World ℕ) (p i x : ℕ) (s : Stage) (here : 
     ≡ after_action (tree_of plan) p w i x s here
 action_is plan w p i x Write here node state registers inside =
     let same = put_own w.states here.node node.state.0 state in
-    let written : register (record node { registers = set node.registers here.team (Some x) }) ≡ put (w.registers here.node) here.team (Some x) =
-    (λ d team. put_stored (λ (y : Option ℕ). y) node.registers here.team (Some x) (λ _. None) (inside refl) team d) ∙ ap (λ f. put f here.team (Some x)) registers in
-    λ d. record { states = λ u. same u d; registers = put w.registers here.node (written d); locals = put w.locals p (Active i x Apply) }
+    let written : register (record node { registers = set node.registers here.team (Some x) }) ≡ put (register node) here.team (Some x) =
+    λ d team. put_stored (λ (y : Option ℕ). y) node.registers here.team (Some x) (λ _. None) (inside refl) team d in
+    let there : put (register node) here.team (Some x) ≡ put (w.registers here.node) here.team (Some x) = ap (λ (f : ℕ → Option ℕ). put f here.team (Some x)) registers in
+    let all = written ∙ there in
+    λ d. record { states = λ u. same u d; registers = put w.registers here.node (all d); locals = put w.locals p (Active i x Apply) }
 action_is plan w p i x Apply here node state registers inside =
     let same = put_own w.registers here.node (register node) registers in
     let next : (q : ℕ) → Local ℕ = λ q. local_at (tree_of plan) p i here x Apply (record node { state = record { 0 = q } }) in
@@ -91,11 +101,8 @@ action_is plan w p i x (Look response) here node state registers inside =
 action_is plan w p i x (Take response saw) here node state registers inside =
     let states = put_own w.states here.node node.state.0 state in
     let same = put_own w.registers here.node (register node) registers in
-    let next = ap (λ (f : ℕ → Option ℕ). taken f) registers in
+    let next = ap (λ (f : ℕ → Option ℕ). onward_if_found (length (path_of (tree_of plan) p)) i (Active i x (Take response saw)) (f ((tree_of plan).judge here.node p response saw))) registers in
     λ d. record { states = λ u. states u d; registers = λ u. same u d; locals = put w.locals p (next d) }
-  where
-    taken : (ℕ → Option ℕ) → Local ℕ
-    taken f = onward_if_found (length (path_of (tree_of plan) p)) i (Active i x (Take response saw)) (f ((tree_of plan).judge here.node p response saw))
 
 pub step_is : (plan : TreePlan) (nodes : List Node) (locals : List StoredLocal) (p : ℕ) (turn : Turn) (node node' : Node) (next : StoredLocal) → IsTurn plan turn → turn.process ≡ p
     → local_in locals p ≡ Active turn.place turn.value (stage_of turn.stage) → turn.here.node < length nodes → p < length locals → node ≡ node_in plan nodes turn.here.node
@@ -108,8 +115,10 @@ step_is plan nodes locals p turn node node' next is mine here lv lp read inside 
     l ∙ ap (λ q. local_at (tree_of plan) q turn.place at turn.value (stage_of turn.stage) node) mine in
     let its : node' ≡ node_at (tree_of plan) p at turn.value (stage_of turn.stage) node = n ∙ ap (λ q. node_at (tree_of plan) q at turn.value (stage_of turn.stage) node) mine in
     let place : at ≡ place_of (tree_of plan) p turn.place = is.here ∙ ap (λ q. place_of (tree_of plan) q turn.place) mine in
-    write_is plan nodes locals turn.here.node p node' next lv lp
-    ∙ (λ d. changed w turn.here.node (its d).state.0 (register (its d)) p (own d))
+    let both : changed w turn.here.node node'.state.0 (register node') p (local_of next)
+    ≡ changed w turn.here.node (node_at (tree_of plan) p at turn.value (stage_of turn.stage) node).state.0 (register (node_at (tree_of plan) p at turn.value (stage_of turn.stage) node)) p
+    (local_at (tree_of plan) p turn.place at turn.value (stage_of turn.stage) node) = λ d. changed w turn.here.node (its d).state.0 (register (its d)) p (own d) in
+    write_is plan nodes locals turn.here.node p node' next lv lp ∙ both
     ∙ action_is plan w p turn.place turn.value (stage_of turn.stage) at node (ap (λ (x : Node). x.state.0) read) (ap register read) (λ _. inside)
     ∙ ap (after_action (tree_of plan) p w turn.place turn.value (stage_of turn.stage)) place
     ∙ sym (ap (after_step_from (tree_of plan) p w) here)

@@ -148,14 +148,14 @@ pub fn run_schedule(
         ≡ decisions_after plan.now inputs.now schedule.now) }
     // promise: consensus-along-a-plan-tree (IsConsensus)
     ensures consensus { IfOk result (λ d. IsConsensus plan.now inputs.now schedule.now d.decisions) }
-    // promise: decisions-along-a-plan-tree (schedule_fault)
+    // promise: refusals-along-a-plan-tree (schedule_fault)
     ensures run { OnOk result
         (schedule_fault (processes_of (tree_of plan.now)) inputs.now schedule.now ≡ None) }
-    // promise: decisions-along-a-plan-tree
+    // promise: refusals-along-a-plan-tree
     ensures told { (e : FaultOf)
         → schedule_fault (processes_of (tree_of plan.now)) inputs.now schedule.now ≡ Some e
         → result ≡ Err e }
-    // promise: decisions-along-a-plan-tree
+    // promise: refusals-along-a-plan-tree
     ensures refused { IfErr result (λ e. (e ≡ OutOfMemory)
         ⊎ (schedule_fault (processes_of (tree_of plan.now)) inputs.now schedule.now ≡ Some e)) }
 {
@@ -192,14 +192,14 @@ pub fn run_steps(
         ≡ decisions_after plan.now inputs.now schedule.now) }
     // promise: consensus-along-a-plan-tree
     ensures consensus { IfOk result (λ c. IsConsensus plan.now inputs.now schedule.now c.decisions) }
-    // promise: steps-along-a-plan-tree
+    // promise: refusals-along-a-plan-tree
     ensures run { OnOk result
         (schedule_fault (processes_of (tree_of plan.now)) inputs.now schedule.now ≡ None) }
-    // promise: steps-along-a-plan-tree
+    // promise: refusals-along-a-plan-tree
     ensures told { (e : FaultOf)
         → schedule_fault (processes_of (tree_of plan.now)) inputs.now schedule.now ≡ Some e
         → result ≡ Err e }
-    // promise: steps-along-a-plan-tree
+    // promise: refusals-along-a-plan-tree
     ensures refused { IfErr result (λ e. (e ≡ OutOfMemory)
         ⊎ (schedule_fault (processes_of (tree_of plan.now)) inputs.now schedule.now ≡ Some e)) }
 {

@@ -74,6 +74,7 @@ impl World {
             ≡ after_step (tree_of plan.now) process (world_of plan.now self.old) }
         ensures of_plan { IsOfPlan plan.now self.new }
     {
+        tree_plans_are_right(plan);
         if let Some(turn) = self.turn(plan, process) {
             let node = &mut self.nodes[usize::from(turn.here.node)];
             self.locals[usize::from(process)] = turn.act(plan, node);
@@ -108,7 +109,8 @@ fn first_nodes(alloc: Global, plan: &TreePlan) -> Result<Vec<Node>, AllocError>
 {
     let mut nodes = Vec::new(alloc);
     for node in 0..plan.nodes() {
-        nodes.push(Node::new(plan.meeting(node).start))?;
+        let meeting = plan.meeting(node);
+        nodes.push(Node::new(meeting.start))?;
     }
     Ok(nodes)
 }
