@@ -45,9 +45,9 @@ consensus_of plan inputs schedule many all h = record {
   entries = length-map-range_with_len (decision w) 0 n;
   agreement = λ p q x y dp dq. (let a = decided_at n w p x dp in let b = decided_at n w q y dq in h.agreement p q x y a.0 b.0 a.1 b.1);
   validity = λ p x d. (let a = decided_at n w p x d in
-  let v = h.validity p x a.0 a.1 in
-  let lt : v.0 < n = All-contains (λ q. q < n) schedule v.0 (All-from_recursion (λ q. q < n) schedule all) v.1 in
-  (v.0, v.1, slice_get-get_or inputs v.0 0 (rw many lt) ∙ ap Some v.2));
+      let v = h.validity p x a.0 a.1 in
+      let lt : v.0 < n = All-contains (λ q. q < n) schedule v.0 (All-from_recursion (λ q. q < n) schedule all) v.1 in
+      (v.0, v.1, slice_get-get_or inputs v.0 0 (rw many lt) ∙ ap Some v.2));
   in_time = λ p lt. (
     (λ d. (h.in_time p lt).0 (let a = decided_at n w p d.0 d.1 in subst IsSome (sym a.1) refl)),
     (λ le. (let x = some_value (decision w p) ((h.in_time p lt).1 le) in (x.0, decides_at n w p x.0 lt x.1))),

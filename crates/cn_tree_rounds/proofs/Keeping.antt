@@ -35,8 +35,8 @@ first_of_plan plan is nodes locals inputs many n l =
       process_count = ap length l ∙ length-map inputs (λ x. local.Active 0 x stage.Write) ∙ many;
       each_node = All-from_get_or (FitsType plan) nodes (first_node plan 0) (λ v lt. fits v lt count);
       each_process = λ p lt. (let e : local_in locals p ≡ Active 0 (get_or inputs p 0) Write =
-      ap (λ (xs : List StoredLocal). local_in xs p) l ∙ ap local_of (lists.get_or-map (λ x. local.Active 0 x stage.Write) inputs p 0) in
-      rw e (starts (tree_of plan) p lt, tt));
+          ap (λ (xs : List StoredLocal). local_in xs p) l ∙ ap local_of (lists.get_or-map (λ x. local.Active 0 x stage.Write) inputs p 0) in
+          rw e (starts (tree_of plan) p lt, tt));
     }
   where
     fits : (v : ℕ) → v < length nodes → length nodes ≡ nodes_of (tree_of plan) → FitsType plan (get_or nodes v (first_node plan 0))
