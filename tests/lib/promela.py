@@ -215,7 +215,9 @@ class Reader:
         while depth or self.tokens[0] not in ends:
             word = self.tokens.pop(0)
             depth += (word in "([") - (word in ")]")
-            if re.fullmatch(r"[A-Za-z_]\w*", word):
+            if word == "false":
+                made.append("False")
+            elif re.fullmatch(r"[A-Za-z_]\w*", word):
                 start, many = self.place(word)
                 made.append(f"world[{start} + within(" if self.tokens[0] == "[" else f"world[{start}]")
                 made.append(("many", many)) if self.tokens[0] == "[" else None

@@ -1,0 +1,8 @@
+use Rattle.std.proofs.Common.{◌≡◌, ◌++◌, flat_map, string_bytes}
+use Rattle.std.specs.List.{range_with_len}
+use Rattle.cn_tree_text.specs.Promela.{node_promela}
+use Rattle.cn_tree_text.proofs.promela.push_nodes.Given as goal
+
+-- the nodes so far
+abbrev pub invariant-loop-node : goal.invariant-loop-node
+invariant-loop-node l = string_bytes l.text ≡ string_bytes l.initial.text ++ flat_map (node_promela l.plan) (range_with_len 0 l.node)

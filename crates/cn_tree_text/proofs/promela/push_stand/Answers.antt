@@ -1,0 +1,8 @@
+use Rattle.std.proofs.Common.{rules, ◌≡◌}
+use Rattle.cn_tree_text.specs.Places.{operation_at}
+use Rattle.cn_tree_text.proofs.promela.push_stand.Goals as goal
+
+pub returns : goal.returns
+returns c =
+    let operation : c.operation_name-operation.result.now ≡ operation_at c.args.plan.now c.args.here.node c.args.process = search rules in
+    rw (← operation) (search rules)

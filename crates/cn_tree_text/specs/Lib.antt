@@ -1,0 +1,4 @@
+pub mod Dot
+pub mod Places
+pub mod Promela
+pub mod Text
