@@ -1,12 +1,11 @@
 -- Lists of what the teams of a node show, entry by entry.
-use Rattle.std.proofs.Common.{ℕ, zero, suc, ◌≡◌, ◌≢◌, ◌↔◌, ◌⊎◌, inl, inr, ◌+◌, ◌<◌, ◌≤◌, List, [], ◌∷◌, ◌++◌, length, slice_index, slice_index_or, AllPairs, Contains, refl, sym, ap, ◌∙◌, subst, arith, get_or, if◌then◌else◌, Bool, true, false}
-use Rattle.std.proofs.lemmas.Bool.{cases_lt}
+use Rattle.std.proofs.Common.{ℕ, ◌≡◌, ◌⊎◌, inl, inr, ◌+◌, ◌<◌, List, [], ◌∷◌, ◌++◌, length, slice_index, slice_index_or, Contains, refl, sym, ap, ◌∙◌, subst, arith, get_or, Bool, true, false}
 use Rattle.std.proofs.lemmas.List.Elements.{Contains-append_left, Contains-get_or, Contains-push, Contains-push_cases}
 use Rattle.std.proofs.lemmas.List.Quantifiers.{all_pairs_push}
-use Rattle.cn_table.specs.TypeTable.{IsTypeTable, TypeTable}
+use Rattle.cn_table.specs.TypeTable.{TypeTable}
 use Rattle.cn_choice.specs.Canonical.{raw_choice_of}
 use Rattle.cn_choice.specs.declared.team.Team.TheVariants.{A}
-use Rattle.cn_outcomes.specs.PairSets.{Has, HaveCommonPair}
+use Rattle.cn_outcomes.specs.PairSets.{Has}
 use Rattle.cn_proto.proofs.Reachable.{pair_known}
 use Rattle.cn_tree_plans.specs.Listing.{AreEntries, AreListed, AreShown, ComesBefore, IsNodeMeeting, IsOf, SomeMeet, SomeShowSame, TeamShows, seen, start_of}
 use Rattle.cn_tree_plans.specs.Plan.{JudgedBefore, NodeMeeting}

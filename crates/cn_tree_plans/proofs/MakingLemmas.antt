@@ -1,5 +1,5 @@
 -- The judgements of all nodes make a plan tree, or a node is no witness.
-use Rattle.std.proofs.Common.{Err, ℕ, ◌≡◌, ◌↔◌, ◌⊎◌, inl, inr, ◌+◌, ◌-◌, ◌<◌, ◌≤◌, List, [], length, slice_index_or, subst, sym, ◌∙◌, arith}
+use Rattle.std.proofs.Common.{Err, ℕ, ◌≡◌, ◌⊎◌, inl, inr, ◌+◌, ◌-◌, ◌<◌, ◌≤◌, List, [], length, slice_index_or, subst, ◌∙◌, arith}
 use Rattle.std.proofs.lemmas.Bool.{cases_lt}
 use Rattle.cn_table.specs.TypeTable.{IsTypeTable, TypeTable}
 use Rattle.cn_choice.specs.declared.limits.TheConstants.{MOST_PROCESSES}

@@ -1,17 +1,17 @@
 -- What the processes of a node of a tree are shown, by its teams.
-use Rattle.std.proofs.Common.{ℕ, zero, suc, ◌≡◌, ◌≢◌, ◌↔◌, ◌⊎◌, inl, inr, ◌+◌, ◌-◌, ◌<◌, ◌≤◌, Bool, true, false, List, [], ◌∷◌, length, slice_index, slice_index_or, refl, sym, ap, ◌∙◌, subst, arith, if◌then◌else◌, Contains, AllPairs}
-use Rattle.std.specs.Prelude.{All, sum}
+use Rattle.std.proofs.Common.{ℕ, ◌≡◌, ◌≢◌, ◌↔◌, ◌⊎◌, inl, inr, ◌+◌, ◌-◌, ◌<◌, ◌≤◌, Bool, true, false, List, [], ◌∷◌, length, slice_index, slice_index_or, refl, sym, ◌∙◌, subst, arith, if◌then◌else◌, Contains}
+use Rattle.std.specs.Prelude.{All}
 use Rattle.std.proofs.lemmas.List.Elements.{All-cons, All-nil}
 use Rattle.cn_table.specs.TypeTable.{IsTypeTable, TypeTable}
 use Rattle.cn_choice.specs.declared.limits.TheConstants.{MOST_PROCESSES}
-use Rattle.cn_meetings.specs.Meeting.{Sight, sees}
+use Rattle.cn_meetings.specs.Meeting.{sees}
 use Rattle.cn_meetings.specs.Meeting.Sight.{Nothing, State}
-use Rattle.cn_meetings.specs.Witness.{BeginsIn, Has, IsOrderOf, IsShown, IsTeamWitness}
+use Rattle.cn_meetings.specs.Witness.{BeginsIn, Has, IsOrderOf, IsTeamWitness}
 use Rattle.cn_trees.specs.Tree.{Teams, comes_to, members, nodes_in, team_in}
 use Rattle.cn_trees.specs.Tree.Teams.{Alone, Last, Meet}
 use Rattle.cn_tree_costs.specs.Nodes.{Node, node_at}
-use Rattle.cn_tree_costs.specs.Sizes.{IsDivision, block, sizes_of}
-use Rattle.cn_tree_plans.specs.Listing.{AreEntries, IsNodeMeeting, Shows, SomeShowSame, TeamShows, seen, start_of}
+use Rattle.cn_tree_costs.specs.Sizes.{IsDivision, sizes_of}
+use Rattle.cn_tree_plans.specs.Listing.{AreEntries, IsNodeMeeting, SomeShowSame, TeamShows, seen, start_of}
 use Rattle.cn_tree_plans.specs.Made.{IsShownTwice}
 use Rattle.cn_tree_plans.specs.Plan.{AreMeetings, IsShownBy, NodeMeeting, meeting_in, no_meeting, tree_with}
 use Rattle.cn_tree_plans.specs.Teams.{AreProper, AreSeveralBelow}

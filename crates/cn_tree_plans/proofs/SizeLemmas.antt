@@ -1,10 +1,10 @@
 -- Teams of these sizes, numbered one after the other.
-use Rattle.std.proofs.Common.{ℕ, zero, suc, ◌≡◌, ◌↔◌, ◌+◌, ◌-◌, ◌<◌, ◌≤◌, Bool, true, false, List, [], ◌∷◌, length, nat_lt, slice_index, refl, arith, if◌then◌else◌, ap, ◌∙◌, add-one}
+use Rattle.std.proofs.Common.{ℕ, zero, suc, ◌≡◌, ◌↔◌, ◌+◌, ◌-◌, ◌<◌, ◌≤◌, Bool, true, false, List, [], ◌∷◌, length, nat_lt, slice_index, refl, arith, if◌then◌else◌, add-one}
 use Rattle.std.specs.Prelude.{All, sum}
 use Rattle.std.proofs.lemmas.Bool.Decides.{nat_tests}
 use Rattle.std.proofs.lemmas.List.Elements.{All-head, All-tail}
 use Rattle.std.proofs.lemmas.List.Sums.{sum_by-cons}
-use Rattle.cn_tree_costs.specs.Sizes.{IsDivision, block}
+use Rattle.cn_tree_costs.specs.Sizes.{block}
 use Rattle.cn_tree_plans.specs.Listing.{start_of}
 
 sum_cons : (m : ℕ) (sizes : List ℕ) → sum (m ∷ sizes) ≡ m + sum sizes

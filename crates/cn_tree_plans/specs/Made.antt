@@ -3,7 +3,7 @@ use Rattle.std.specs.Prelude.{◌≡◌, ◌≢◌, ◌+◌, ◌<◌, ◌^◌, �
 use Rattle.std.specs.declared.vec.Vec.{Vec}
 use Rattle.cn_table.specs.TypeTable.{TypeTable}
 use Rattle.cn_meetings.specs.Witness.{Has, IsTeamWitness}
-use Rattle.cn_trees.specs.Tree.{AreWitnesses, PlanTree, Teams, comes_to, nodes_in, nodes_of, team_in}
+use Rattle.cn_trees.specs.Tree.{AreWitnesses, PlanTree, Teams, comes_to, nodes_of, team_in}
 use Rattle.cn_tree_costs.specs.Nodes.{node_at}
 use Rattle.cn_tree_costs.specs.Sizes.{sizes_of}
 use Rattle.cn_tree_plans.specs.Listing.{AreEntries, SomeShowSame}

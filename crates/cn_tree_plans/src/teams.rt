@@ -1,10 +1,12 @@
 //! The teams of a node.
-ghost use Rattle.std.specs.Prelude.{◌≡◌, ◌+◌, ◌++◌, ◌≤◌, ◌<◌, ◌^◌, length, IfOk, OnOk};
+ghost use Rattle.std.specs.Prelude.{◌≡◌, ◌↔◌, ◌+◌, ◌++◌, ◌≤◌, ◌<◌, ◌^◌, length, IfNone, IfOk, IfSome, IsTrue, OnOk};
 ghost use Rattle.cn_trees.specs.Tree.{members, nodes_in};
 ghost use Rattle.cn_tree_costs.specs.Nodes.{node_at, node_below};
 ghost use Rattle.cn_tree_costs.specs.Sizes.{sizes_of};
-ghost use Rattle.cn_tree_plans.specs.Teams.{AreSeveralBelow, teams_of};
+ghost use Rattle.cn_tree_plans.specs.Teams.{AreProper, AreSeveralBelow, teams_of};
+ghost use Rattle.cn_choice.specs.declared.limits.TheConstants.{MOST_PROCESSES};
 
+use cn_choice::MOST_PROCESSES;
 use std::alloc::{AllocError, Global};
 
 /// The teams of a node, one after the other.
@@ -22,12 +24,73 @@ impl Teams {
     /// How many processes there are.
     pub fn members(&self) -> u8
         requires { members (teams_of self.now) < 2 ^ 8 }
+        // promise: parts-of-a-tree-plan
         ensures { result ≡ members (teams_of self.now) }
     {
         match self {
             Teams::Last => 0,
             Teams::Alone(rest) => 1 + rest.members(),
             Teams::Meet(team, rest) => team.members() + rest.members(),
+        }
+    }
+
+    /// Whether these are the teams of a plan tree: two or more at each node, and at most
+    /// [`MOST_PROCESSES`](cn_choice::MOST_PROCESSES) processes.
+    pub fn are_proper(&self) -> bool
+        // promise: tree-plans-are-made (AreProper)
+        ensures { IsTrue result ↔ (AreProper (teams_of self.now)
+            × (members (teams_of self.now) ≤ MOST_PROCESSES)) }
+    {
+        self.members_within(MOST_PROCESSES as u8).is_some()
+            && self.are_several()
+            && self.are_several_below()
+    }
+
+    /// The number of processes, unless there are more than this many.
+    fn members_within(&self, most: u8) -> Option<u8>
+        ensures none { IfNone result (most < members (teams_of self.now)) }
+        ensures some { IfSome result (λ n. (n ≡ members (teams_of self.now)) × (n ≤ most)) }
+    {
+        match self {
+            Teams::Last => Some(0),
+            Teams::Alone(rest) => one_more(rest.members_within(most)?, most),
+            Teams::Meet(team, rest) => {
+                let size = team.members_within(most)?;
+                sum_within(size, rest.members_within(most)?, most)
+            }
+        }
+    }
+
+    /// Whether there are two or more.
+    fn are_several(&self) -> bool
+        ensures { IsTrue result ↔ (2 ≤ length (sizes_of (teams_of self.now))) }
+    {
+        match self {
+            Teams::Last => false,
+            Teams::Alone(rest) | Teams::Meet(_, rest) => rest.is_some(),
+        }
+    }
+
+    /// Whether there is one.
+    fn is_some(&self) -> bool
+        ensures { IsTrue result ↔ (1 ≤ length (sizes_of (teams_of self.now))) }
+    {
+        match self {
+            Teams::Last => false,
+            Teams::Alone(_) | Teams::Meet(..) => true,
+        }
+    }
+
+    /// Whether there are two or more at each node below.
+    fn are_several_below(&self) -> bool
+        ensures { IsTrue result ↔ AreSeveralBelow (teams_of self.now) }
+    {
+        match self {
+            Teams::Last => true,
+            Teams::Alone(rest) => rest.are_several_below(),
+            Teams::Meet(team, rest) => {
+                team.are_several() && team.are_several_below() && rest.are_several_below()
+            }
         }
     }
 
@@ -159,4 +222,20 @@ impl Teams {
         }
         Ok(())
     }
+}
+
+fn one_more(n: u8, most: u8) -> Option<u8>
+    requires { n ≤ most }
+    ensures none { IfNone result (most < 1 + n) }
+    ensures some { IfSome result (λ m. (m ≡ 1 + n) × (m ≤ most)) }
+{
+    if n < most { Some(1 + n) } else { None }
+}
+
+fn sum_within(n: u8, m: u8, most: u8) -> Option<u8>
+    requires { n ≤ most }
+    ensures none { IfNone result (most < n + m) }
+    ensures some { IfSome result (λ sum. (sum ≡ n + m) × (sum ≤ most)) }
+{
+    if m <= most - n { Some(n + m) } else { None }
 }

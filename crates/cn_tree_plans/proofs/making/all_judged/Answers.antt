@@ -1,9 +1,9 @@
-use Rattle.std.proofs.Common.{Err, ap, arith, length, slice_index_or, subst, ℕ, ◌+◌, ◌<◌, ◌≡◌, ◌∙◌}
+use Rattle.std.proofs.Common.{ap, arith, slice_index_or, subst, ℕ, ◌+◌, ◌<◌, ◌≡◌, ◌∙◌}
 use Rattle.std.proofs.lemmas.List.{get_or_default}
 use Rattle.cn_trees.specs.Tree.{nodes_in}
 use Rattle.cn_tree_costs.specs.Nodes.{node_at}
 use Rattle.cn_tree_costs.specs.Sizes.{sizes_of}
-use Rattle.cn_tree_plans.specs.Made.{AreNodeLists, IsNodeJudged}
+use Rattle.cn_tree_plans.specs.Made.{AreNodeLists}
 use Rattle.cn_tree_plans.specs.Plan.{no_meeting}
 use Rattle.cn_tree_plans.specs.Teams.{teams_of}
 use Rattle.cn_tree_plans.proofs.MakingLemmas.{all_witnesses, fault_fits, fault_right, is_tree_plan, judged_same}

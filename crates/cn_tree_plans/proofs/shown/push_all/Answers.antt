@@ -1,4 +1,4 @@
-use Rattle.std.proofs.Common.{ℕ, List, [], ◌≡◌, ◌+◌, ◌-◌, ◌++◌, ◌∷◌, ◌≤◌, ap, arith, drop, length, length-append, length-drop, refl, sym, take, ◌∙◌}
+use Rattle.std.proofs.Common.{ℕ, List, [], ◌-◌, ◌++◌, ◌∷◌, ap, arith, drop, length, length-append, take, ◌∙◌}
 use Rattle.std.proofs.lemmas.List.{length-take}
 use Rattle.cn_tree_plans.proofs.ShownLemmas.{pushed}
 use Rattle.cn_tree_plans.proofs.shown.push_all.Goals as goal

@@ -1,4 +1,4 @@
-use Rattle.std.proofs.Common.{Bool, ap, sym, true, false, ◌≡◌, ◌∙◌}
+use Rattle.std.proofs.Common.{ap, sym, true, false, ◌≡◌, ◌∙◌}
 use Rattle.cn_tree_plans.specs.Plan.{NodeMeeting}
 use Rattle.cn_tree_plans.proofs.ShownLemmas.{fits_table, outcome_known, role_inside, shows_not, shows_read}
 use Rattle.cn_tree_plans.proofs.shown.shown_by.Goals as goal

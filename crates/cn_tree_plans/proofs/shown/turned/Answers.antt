@@ -1,4 +1,4 @@
-use Rattle.std.proofs.Common.{List, ap, ℕ, ◌++◌, ◌-◌, ◌∙◌, drop, sym, take}
+use Rattle.std.proofs.Common.{List, ap, ℕ, ◌++◌, ◌-◌, ◌∙◌, drop, take}
 use Rattle.cn_tree_plans.specs.Plan.{NodeMeeting}
 use Rattle.cn_tree_plans.proofs.ShownLemmas.{turned_is}
 use Rattle.cn_tree_plans.proofs.shown.turned.Goals as goal
