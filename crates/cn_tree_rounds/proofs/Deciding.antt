@@ -1,11 +1,10 @@
 -- The decisions of all processes as a list, and consensus of them.
-use Rattle.std.proofs.Common.{ℕ, ◌≡◌, ◌<◌, ◌≤◌, ◌↔◌, List, length, map, get_or, slice_get, Contains, Option, Some, None, IsSome, refl, sym, ap, ◌∙◌, subst, inl, inr, arith}
-use Rattle.std.specs.List.{range_with_len}
+use Rattle.std.proofs.Common.{ℕ, ◌≡◌, ◌<◌, List, length, map, Option, Some, None, IsSome, refl, sym, ap, ◌∙◌, subst, arith}
 use Rattle.std.proofs.lemmas.List.Elements.{All-contains, All-from_recursion}
 use Rattle.std.proofs.lemmas.List.FromFn.{get_or-map-range_with_len, length-map-range_with_len}
 use Rattle.std.proofs.lemmas.Option.{get_or_from_slice_get, slice_get-get_or}
 use Rattle.cn_table.proofs.Lists.{get_low}
-use Rattle.cn_agree.specs.Consensus.{Decides, HasDecided, IsSchedule}
+use Rattle.cn_agree.specs.Consensus.{Decides, IsSchedule}
 use Rattle.cn_trees.specs.Consensus.{IsConsensus as AgreeAlong, decision, decision_of}
 use Rattle.cn_trees.specs.Steps.{World, world_after}
 use Rattle.cn_trees.specs.Tree.{processes_of}

@@ -1,5 +1,5 @@
 -- Nodes and processes of a plan, at first and after a step.
-use Rattle.std.proofs.Common.{ℕ, zero, suc, ◌≡◌, ◌+◌, ◌<◌, ◌≤◌, All, List, length, map, set, replicate, get_or, Option, Some, None, Bool, true, false, nat_lt, refl, sym, ap, ◌∙◌, subst, inl, inr, arith, get_or-set_same, get_or-set_other, length-set}
+use Rattle.std.proofs.Common.{ℕ, ◌≡◌, ◌+◌, ◌<◌, List, length, map, set, get_or, Option, Some, None, Bool, true, false, nat_lt, refl, sym, ap, ◌∙◌, subst, inl, inr, arith, get_or-set_same, get_or-set_other, length-set}
 use Rattle.std.proofs.lemmas.List.{length-map}
 use Rattle.std.specs.List.{range_with_len}
 use Rattle.std.proofs.lemmas.Bool.{cases_eq}
@@ -9,8 +9,8 @@ use Rattle.std.proofs.lemmas.List.FromFn.{get_or-map-range_with_len, length-map-
 use Rattle.std.proofs.Math.ListN as lists
 use Rattle.cn_choice.specs.declared.limits.TheConstants.{MOST_PROCESSES}
 use Rattle.cn_meetings.specs.Meeting.{act}
-use Rattle.cn_trees.specs.Steps.{Local, Stage, behind, looks_at, onward, onward_if_found}
-use Rattle.cn_trees.specs.Steps.Local.{Active, Decided}
+use Rattle.cn_trees.specs.Steps.{Stage, behind, looks_at, onward, onward_if_found}
+use Rattle.cn_trees.specs.Steps.Local.{Active}
 use Rattle.cn_trees.specs.Steps.Stage.{Write, Apply, Look, Take}
 use Rattle.cn_trees.specs.Tree.{Place, PlanTree, nodes_of, path_of, place_of, processes_of}
 use Rattle.cn_trees.proofs.Places.{starts}

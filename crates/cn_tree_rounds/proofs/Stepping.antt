@@ -1,5 +1,5 @@
 -- The step of a process whose turn and whose node were read.
-use Rattle.std.proofs.Common.{ℕ, ◌≡◌, ◌<◌, List, length, set, get_or, sym, ap, ◌∙◌, subst}
+use Rattle.std.proofs.Common.{ℕ, ◌≡◌, ◌<◌, List, length, set, get_or, sym, ◌∙◌, subst}
 use Rattle.std.proofs.lemmas.List.{get_or_default}
 use Rattle.std.proofs.lemmas.List.Elements.{All-get_or}
 use Rattle.cn_trees.specs.Steps.{after_step}

@@ -1,12 +1,12 @@
 -- No node has more teams than there are processes.
-use Rattle.std.proofs.Common.{ℕ, zero, suc, ◌≡◌, ◌+◌, ◌-◌, ◌<◌, ◌≤◌, length, arith, Bool, true, false, nat_lt, if◌then◌else◌}
+use Rattle.std.proofs.Common.{ℕ, zero, suc, ◌+◌, ◌-◌, ◌<◌, ◌≤◌, length, arith, Bool, true, false, nat_lt, if◌then◌else◌}
 use Rattle.cn_choice.specs.declared.limits.TheConstants.{MOST_PROCESSES}
 use Rattle.cn_trees.specs.Tree.{Teams, members, nodes_in}
 use Rattle.cn_trees.specs.Tree.Teams.{Alone, Last, Meet}
-use Rattle.cn_tree_costs.specs.Nodes.{Node, behind, node_at, node_below}
+use Rattle.cn_tree_costs.specs.Nodes.{behind, node_at, node_below}
 use Rattle.cn_tree_costs.specs.Sizes.{sizes_of}
 use Rattle.cn_tree_plans.specs.Plan.{IsTreePlan, TreePlan}
-use Rattle.cn_tree_plans.specs.Teams.{AreProper, AreSeveralBelow}
+use Rattle.cn_tree_plans.specs.Teams.{AreSeveralBelow}
 
 teams_few : (s : Teams) → AreSeveralBelow s → length (sizes_of s) ≤ members s
 teams_few Last h = omega arith

@@ -1,5 +1,5 @@
 -- The world of a plan tree in memory, and the world of the model that it stands for.
-use Rattle.std.specs.Prelude.{ℕ, ◌≡◌, ◌<◌, All, List, length, replicate, Option, Some, None}
+use Rattle.std.specs.Prelude.{ℕ, ◌≡◌, ◌<◌, All, List, length, replicate, Option, None}
 use Rattle.std.specs.Prelude.{slice_index_or, true}
 use Rattle.cn_choice.specs.declared.limits.TheConstants.{MOST_PROCESSES}
 use Rattle.cn_trees.specs.Steps.{Local, Stage, World, looks_at}

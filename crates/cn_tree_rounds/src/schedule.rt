@@ -1,5 +1,5 @@
 //! Whole schedules: lists of the processes that take the steps.
-ghost use Rattle.std.specs.Prelude.{◌≡◌, ◌⊎◌, length, Err, IfErr, IfOk, OnOk, None, Some, nat_le, position};
+ghost use Rattle.std.specs.Prelude.{◌≡◌, ◌⊎◌, Err, IfErr, IfOk, OnOk, None, Some, nat_le, position};
 ghost use Rattle.cn_agree.specs.Consensus.{IsSchedule};
 ghost use Rattle.cn_agree.specs.Schedules.{schedule_fault};
 ghost use Rattle.cn_agree.specs.declared.fault.ScheduleFault.{ScheduleFault as FaultOf};

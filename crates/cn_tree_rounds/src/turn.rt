@@ -1,6 +1,5 @@
 //! The actions of a process at a place of its path.
-ghost use Rattle.std.specs.Prelude.{◌≡◌, ◌+◌, ◌<◌, IfSome, length, nat_lt, if◌then◌else◌};
-ghost use Rattle.cn_meetings.specs.Meeting.{see};
+ghost use Rattle.std.specs.Prelude.{◌≡◌, ◌+◌, ◌<◌, IfSome, length};
 ghost use Rattle.cn_trees.specs.Steps.{behind, onward};
 ghost use Rattle.cn_tree_plans.specs.Paths.{place_of};
 ghost use Rattle.cn_tree_plans.specs.Plan.{tree_of};

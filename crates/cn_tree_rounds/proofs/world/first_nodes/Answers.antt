@@ -1,4 +1,4 @@
-use Rattle.std.proofs.Common.{ap, ◌∙◌, sym}
+use Rattle.std.proofs.Common.{ap}
 use Rattle.cn_tree_plans.specs.Plan.{NodeMeeting}
 use Rattle.cn_tree_rounds.proofs.Storing.{one_more_node}
 use Rattle.cn_tree_rounds.proofs.world.first_nodes.Goals as goal
