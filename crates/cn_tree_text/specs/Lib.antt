@@ -1,4 +1,5 @@
 pub mod Dot
 pub mod Places
 pub mod Promela
+pub mod Steps
 pub mod Text
