@@ -1,7 +1,9 @@
 pub mod Carrying
+pub mod Known
 pub mod ListingLemmas
 pub mod MakingLemmas
 pub mod NodeLemmas
+pub mod Numbers
 pub mod Outcomes
 pub mod PlanLemmas
 pub mod ShownLemmas

@@ -1,3 +1,4 @@
+pub mod Fitting
 pub mod Listing
 pub mod Made
 pub mod Paths

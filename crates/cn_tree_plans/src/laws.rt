@@ -1,12 +1,13 @@
 //! Laws of plan trees in memory. A law is a function that does nothing: its contract is the law.
-ghost use Rattle.std.specs.Prelude.{ℕ, List, Bool, ◌≡◌, ◌≤◌, true};
+ghost use Rattle.std.specs.Prelude.{ℕ, List, Bool, ◌≡◌, ◌<◌, ◌≤◌, All, length, true};
 ghost use Rattle.cn_agree.specs.Consensus.{IsSchedule};
 ghost use Rattle.cn_meetings.specs.Meeting.{Sight};
 ghost use Rattle.cn_meetings.specs.Meeting.Sight.{Nothing, State};
+ghost use Rattle.cn_meetings.specs.Witness.{Has};
 ghost use Rattle.cn_trees.specs.Consensus.{IsConsensus};
-ghost use Rattle.cn_trees.specs.Tree.{IsPlanTree, processes_of};
+ghost use Rattle.cn_trees.specs.Tree.{IsPlanTree, comes_to, nodes_of, processes_of};
 ghost use Rattle.cn_tree_costs.specs.Cost.{IsTreeFor};
-ghost use Rattle.cn_tree_plans.specs.Plan.{IsTreePlan, tree_of};
+ghost use Rattle.cn_tree_plans.specs.Plan.{IsTreePlan, judged_at, tree_of};
 
 use crate::plan::TreePlan;
 use cn_tree_costs::laws::nodes_are_trees;
@@ -41,4 +42,14 @@ pub fn tree_plans_agree<V>(plan: &TreePlan)
 {
     tree_plans_are_right(plan);
     plan_trees_agree::<V>();
+}
+
+/// What the processes of a plan tree judge has responses and states of the type.
+pub fn judgements_are_of_the_type(plan: &TreePlan)
+    // promise: judgements-of-a-tree-plan
+    ensures { (v p : ℕ) → v < nodes_of (tree_of plan.now) → Has (comes_to plan.now.teams v) p
+        → All (λ j. (j.response.0 < length plan.now.table.responses)
+        × (j.state.0 < length plan.now.table.states)) (judged_at plan.now v p) }
+{
+    tree_plans_are_right(plan);
 }

@@ -16,6 +16,7 @@
 #![tactic(auto)]
 
 mod fault;
+mod fitting;
 mod judged;
 pub mod laws;
 mod making;
@@ -27,6 +28,7 @@ mod shown;
 mod teams;
 
 pub use fault::TreePlanFault;
+pub use fitting::are_meetings;
 pub use judged::Judged;
 pub use meeting::Meeting;
 pub use place::Place;

@@ -114,6 +114,14 @@ impl TreePlan {
         &self.table
     }
 
+    /// The teams of the root.
+    pub fn teams(&self) -> &Teams
+        // promise: parts-of-a-tree-plan
+        ensures { teams_of result.now ≡ self.now.teams }
+    {
+        &self.teams
+    }
+
     /// The number of processes, from 2 to [`MOST_PROCESSES`](cn_choice::MOST_PROCESSES).
     pub fn processes(&self) -> u8
         // promise: parts-of-a-tree-plan

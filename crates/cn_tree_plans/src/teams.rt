@@ -196,8 +196,13 @@ impl Teams {
     }
 
     /// The sizes of the teams.
-    pub(crate) fn sizes(&self, alloc: Global) -> Result<Vec<u8>, AllocError>
+    ///
+    /// # Errors
+    ///
+    /// `AllocError` if memory runs out.
+    pub fn sizes(&self, alloc: Global) -> Result<Vec<u8>, AllocError>
         requires { members (teams_of self.now) < 2 ^ 8 }
+        // promise: parts-of-a-tree-plan
         ensures { IfOk result (λ sizes. sizes.items ≡ sizes_of (teams_of self.now)) }
     {
         let mut sizes = Vec::new(alloc);

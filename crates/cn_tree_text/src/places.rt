@@ -8,7 +8,7 @@ ghost use Rattle.cn_tree_plans.specs.Plan.{judged_at, tree_of};
 ghost use Rattle.cn_tree_text.specs.Places.{first_at, place_at, places_of, size_at};
 
 use cn_tree_costs::laws::nodes_are_trees;
-use cn_tree_plans::laws::tree_plans_are_right;
+use cn_tree_plans::laws::judgements_are_of_the_type;
 use cn_tree_plans::{Judged, Place, TreePlan};
 
 /// A place of a path, whose node is one of the plan's, to which the process comes.
@@ -49,7 +49,7 @@ pub(crate) fn judged_of(plan: &TreePlan, node: u8, process: u8) -> &[Judged]
         (λ j. (j.response.0 < length plan.now.table.responses)
         × (j.state.0 < length plan.now.table.states)) result.now }
 {
-    tree_plans_are_right(plan);
+    judgements_are_of_the_type(plan);
     plan.judged(node, process)
 }
 

@@ -3,15 +3,14 @@ use Rattle.std.proofs.Common.{◌≡◌, ℕ, zero, suc, ◌+◌, ◌<◌, Bool,
 use Rattle.std.specs.Prelude.{slice_index}
 use Rattle.std.specs.List.{AllByRecursion, slice_get}
 use Rattle.std.proofs.lemmas.List.Elements.{Contains-get_or}
-use Rattle.cn_table.specs.TypeTable.{IsRow, IsTypeTable, Row, TypeTable, no_row}
+use Rattle.cn_table.specs.TypeTable.{IsRow, IsTypeTable, Row, TypeTable, no_row, transition}
 use Rattle.cn_meetings.specs.Meeting.{Meeting, act, sees}
 use Rattle.cn_meetings.specs.Meeting.Sight.{Nothing, State}
 use Rattle.cn_meetings.specs.Witness.{Has}
 use Rattle.cn_proto.specs.Order.{after, answers}
 use Rattle.cn_trees.specs.Tree.{comes_to, nodes_in}
-use Rattle.cn_tree_plans.specs.Plan.{IsTreePlan, TreePlan, judged_at, tree_of}
+use Rattle.cn_tree_plans.specs.Plan.{IsTreePlan, TreePlan, judged_at, no_meeting, tree_of}
 use Rattle.cn_tree_plans.specs.declared.judged.Judged.{Judged}
-use Rattle.cn_tree_text.specs.Places.{node_meeting}
 
 -- an element of the list, or the default
 listed_or : {X : Type 0} (P : X → Type 0) (xs : List X) (k : ℕ) (d : X) → AllByRecursion P xs → P d → P (get_or xs k d)
@@ -64,5 +63,5 @@ judged_known plan is v p lv comes = λ k d lt.
     answer_known plan.table is.known M shown.0 M.start shown.1.answered.0 j.response.0 shown.1.answered.2 in
     let last = after_known plan.table is.known M shown.0 M.start (is.fits.starts v lv) in
     let state : j.state.0 < length plan.table.states =
-    subst (λ (x : ℕ). x < length plan.table.states) shown.1.last_state (seen_known plan.table is.known (node_meeting plan v).reads (after (act plan.table M) M.start shown.0) last) in
+    subst (λ (x : ℕ). x < length plan.table.states) shown.1.last_state (seen_known plan.table is.known (slice_index_or plan.meetings v no_meeting).reads (after (act plan.table M) M.start shown.0) last) in
     (response, state)

@@ -1,0 +1,5 @@
+//! The tests of plan trees: schedules by hand.
+#![tactic(auto)]
+
+#[cfg(test)]
+mod four;
