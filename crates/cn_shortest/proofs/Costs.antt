@@ -41,3 +41,9 @@ module _ (roots : List Roots) (rows : List Row) (row : Row) (n : ℕ) (t : TypeT
       λ h. absurd (true≢false (sym (some_of (table_of rows n (4 * (n - 1))) (exact.1 h)) ∙ ap is_some_of (entry (4 * (n - 1)) ∙ none refl (4 * (n - 1)) (omega (arith, few))))),
     );
   }
+
+-- the load that the cost has
+pub first_load : (rows : List Row) (row : Row) (n : ℕ) (found : Option Cost) → slice_get rows (n - 1) ≡ Some row → IfSome found (IsFirstCost row.loads)
+    → IfSome found (λ c. (c.steps ≤ 28) × (table_of rows n c.steps ≡ Some (record { nodes = c.nodes; sum = c.sum })))
+first_load rows row n None at first = tt
+first_load rows row n (Some c) at first = (first.within, ap (λ (o : Option Row). load_at o c.steps) at ∙ first.load_is)

@@ -53,7 +53,7 @@ fewer_at [] more g = omega arith
 fewer_at (x ∷ xs) more zero = omega arith
 fewer_at (x ∷ xs) more (suc g) = fewer_at xs more g
 
-size_most : (team : ℕ → ℕ) (n g : ℕ) → team_size team n g ≤ n
+pub size_most : (team : ℕ → ℕ) (n g : ℕ) → team_size team n g ≤ n
 size_most team zero g = omega arith
 size_most team (suc n) g = elim (cases_eq (team n) g) [
   | inl e ↦ (let y : nat_eq (team n) g ≡ true = grind (arith, nat_tests) in rw y (omega (arith, size_most team n g)))

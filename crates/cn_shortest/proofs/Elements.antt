@@ -4,6 +4,10 @@ use Rattle.std.specs.Prelude.{All, Contains, slice_get, slice_index_or}
 use Rattle.std.proofs.lemmas.Bool.{cases_lt}
 use Rattle.std.proofs.lemmas.List.Elements.{All-head, All-tail}
 use Rattle.std.proofs.lemmas.Option.{none-some, same_Some, slice_get-get_or, slice_get_within}
+use Rattle.cn_shortest.specs.declared.sizes.Sizes.{Sizes}
+
+abbrev pub no_sizes : Sizes
+no_sizes = record { counts = []; example = record { start = record { 0 = 0 }; operations = []; teams = [] } }
 
 pub below_or_last : (i k : ℕ) → i < k + 1 → (i < k) ⊎ (i ≡ k)
 below_or_last i k l = elim (cases_lt i k) [ inl m ↦ inl m | inr m ↦ inr (omega (arith, l, m)) ]

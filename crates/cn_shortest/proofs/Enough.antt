@@ -1,5 +1,5 @@
 -- No root is missing from the list: the teams of a witness are those of the finest division, merged.
-use Rattle.std.proofs.Common.{ℕ, zero, suc, ◌≡◌, ◌≢◌, ◌+◌, ◌<◌, ◌≤◌, Bool, true, false, true≢false, List, length, refl, sym, ap, ◌∙◌, subst, arith, nat_lt, Some, slice_get}
+use Rattle.std.proofs.Common.{ℕ, zero, suc, ◌≡◌, ◌+◌, ◌<◌, ◌≤◌, true, true≢false, List, sym, ap, ◌∙◌, subst, arith, nat_lt, Some, slice_get}
 use Rattle.std.specs.Prelude.{Contains, IsPermutation, sum}
 use Rattle.std.proofs.lemmas.Bool.Decides.{nat_tests}
 use Rattle.std.proofs.lemmas.List.Sorted.{IsPermutation-sym}
@@ -8,7 +8,7 @@ use Rattle.cn_divisions.specs.declared.divisions.Division.{Division}
 use Rattle.cn_meetings.specs.Division.{IsFinest}
 use Rattle.cn_meetings.specs.Meeting.{Meeting, Sight}
 use Rattle.cn_meetings.specs.Meeting.Sight.{Nothing, Response, State}
-use Rattle.cn_meetings.specs.Witness.{Has, IsTeamWitness}
+use Rattle.cn_meetings.specs.Witness.{IsTeamWitness}
 use Rattle.cn_meetings.proofs.Finest.{coarser, finest}
 use Rattle.cn_stocks.specs.Each.{EachAt}
 use Rattle.cn_table.specs.TypeTable.{TypeTable}
@@ -20,7 +20,7 @@ use Rattle.cn_shortest.specs.Roots.{AreSizesOf}
 use Rattle.cn_shortest.specs.Sizes.{AreCounts, AreOf, sizes_of}
 use Rattle.cn_shortest.specs.declared.roots.Roots.{Roots}
 use Rattle.cn_shortest.specs.declared.sizes.Sizes.{Sizes}
-use Rattle.cn_shortest.proofs.Coarser.{IsReached, reached, two_teams}
+use Rattle.cn_shortest.proofs.Coarser.{reached, two_teams}
 use Rattle.cn_shortest.proofs.Elements.{all_at, contains_before, contains_later, element_at, mapped_at}
 use Rattle.cn_shortest.proofs.Merging.{counted_same}
 use Rattle.cn_shortest.proofs.Numbers.{two_or_more}

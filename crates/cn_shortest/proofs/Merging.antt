@@ -8,6 +8,7 @@ use Rattle.cn_meetings.specs.Meeting.{Sight}
 use Rattle.cn_stocks.proofs.StockLemmas.{get_before}
 use Rattle.cn_table.specs.TypeTable.{TypeTable}
 use Rattle.cn_tree_costs.specs.Sizes.{HasSizes, IsDivision}
+use Rattle.cn_shortest.specs.Examples.{IsExample}
 use Rattle.cn_shortest.specs.Roots.{AreAll, AreFound, AreSame, Has, HasMerged, IsAdded, IsExtended, IsFound}
 use Rattle.cn_stocks.specs.Words.{times}
 use Rattle.cn_stocks.proofs.Times.{one_else, times_cons, times_none}
@@ -100,15 +101,16 @@ module _ (n : ℕ) (sizes : Sizes) (first old : List Sizes) (a b : ℕ) (few : n
   pub merged_more : (new : List Sizes) (s : Sizes) → AreMerged sizes.counts a b s.counts → HasBoth sizes.counts a b × (a + b < n)
       → ((t : TypeTable) (sight : Sight) (xs ys : List ℕ) → IsPermutation xs ys → HasSizes t sight xs → HasSizes t sight ys)
       → ((t : TypeTable) (sight : Sight) (x y : ℕ) (zs : List ℕ) → HasSizes t sight (x ∷ (y ∷ zs)) → HasSizes t sight ((x + y) ∷ zs))
+      → ((t : TypeTable) (sight : Sight) → IsExample t sight n sizes.counts sizes.example → IsExample t sight n s.counts s.example)
       → IsAdded old s new → Has new s.counts → MergedTo n sizes first new a (b + 1)
-  merged_more new s are both order one added has =
+  merged_more new s are both order one example added has =
       let kept = extended_added old new s added in
       let here = merged_of n sizes.counts s.counts a b few la lb both.1 both.0 are of in
       record {
         kept = extended_on first old new so.kept kept;
         of_n = all_added (λ x. AreOf n x.counts) old new s added so.of_n here;
         found = λ t sight h all. all_added (IsFound t sight n) old new s added (so.found t sight h all)
-            (here, found_merged n sizes.counts s.counts a b few la lb both.1 both.0 are t sight (order t sight) (one t sight a b) h.1);
+            (record { of_n = here; has = found_merged n sizes.counts s.counts a b few la lb both.1 both.0 are t sight (order t sight) (one t sight a b) h.has; example = example t sight h.example });
         all = λ d l. elim (below_or_last d b l) [
           | inl m ↦ (λ counts ka kb pair lt is. has_extended old new counts kept (so.all d m counts ka kb pair lt is))
           | inr m ↦ subst (HasMerged n sizes.counts new a) (sym m) (λ counts ka kb pair lt is. same_has new s.counts counts (merged_once sizes.counts s.counts counts a b are is) has)

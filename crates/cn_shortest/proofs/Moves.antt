@@ -5,15 +5,12 @@ use Rattle.std.proofs.lemmas.Bool.Decides.{nat_tests}
 use Rattle.cn_stocks.specs.Words.{times}
 use Rattle.cn_stocks.proofs.Times.{one, one_else, one_of, same_or, times_cons, times_none}
 use Rattle.cn_tree_costs.specs.Sizes.{team_size}
+use Rattle.cn_shortest.specs.Examples.{moved}
 use Rattle.cn_shortest.specs.Roots.{AreSame, AreWithin}
 use Rattle.cn_shortest.specs.Sizes.{AreMerged, HasBoth}
 use Rattle.cn_shortest.proofs.Dividing.{size_less}
 use Rattle.cn_shortest.proofs.Permuted.{both_cons}
-use Rattle.cn_shortest.proofs.TeamCounts.{counts_at, counts_long, counts_of, kinds, number, total_two}
-
--- whoever is in team u moves to team v
-abbrev pub moved : (ℕ → ℕ) → ℕ → ℕ → ℕ → ℕ
-moved f u v p = cond (nat_eq (f p) u) v (f p)
+use Rattle.cn_shortest.proofs.TeamCounts.{counts_at, counts_long, counts_of, number, total_two}
 
 pub moved_there : (f : ℕ → ℕ) (u v p : ℕ) → f p ≡ u → moved f u v p ≡ v
 moved_there f u v p e = (let y : nat_eq (f p) u ≡ true = grind (arith, nat_tests) in ap (λ b. cond b v (f p)) y)
@@ -50,7 +47,7 @@ module _ (f : ℕ → ℕ) (u v : ℕ) (ne : u ≢ v) where
     abbrev b : ℕ
     b = team_size f n v
 
-    balance : (x : ℕ) → number n k (moved f u v) x + (one x a + one x b) ≡ number n k f x + (one x 0 + one x (a + b))
+    pub balance : (x : ℕ) → number n k (moved f u v) x + (one x a + one x b) ≡ number n k f x + (one x 0 + one x (a + b))
     balance x =
         let two = total_two (λ g. one x (team_size f n g)) (λ g. one x (team_size (moved f u v) n g)) u v k lu lv ne (λ g m w. sym (ap (one x) (size_else n g m w))) in
         omega (arith, two, ap (one x) (size_from n), ap (one x) (size_to n))

@@ -18,7 +18,7 @@ use Rattle.cn_shortest.specs.declared.roots.Roots.{Roots}
 use Rattle.cn_shortest.proofs.Elements.{all_at, contains_either, contains_mapped}
 use Rattle.cn_shortest.proofs.Loading.{nodes_or, root_small, same_root, sum_or}
 
-read : (loads : List (Option Load)) (b : ℕ) → load_in (slice_get loads b) ≡ load_of (get_or loads b None)
+pub read : (loads : List (Option Load)) (b : ℕ) → load_in (slice_get loads b) ≡ load_of (get_or loads b None)
 read [] b = refl
 read (x ∷ loads) zero = refl
 read (x ∷ loads) (suc b) = read loads b

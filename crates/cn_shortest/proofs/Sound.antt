@@ -26,10 +26,10 @@ sound_in : (t : TypeTable) (n : ℕ) (r : Roots) (root : Root) → AreRootsOf t 
 sound_in t n r root are h = elim (contains_either (roots_with Nothing r.nothing.items) (roots_with State r.state.items) root h) [
   | inl i ↦ (let m = contains_mapped (root_with Nothing) r.nothing.items root i in
       let found = all_at (IsFound t Nothing n) r.nothing.items m.0 m.1 are.nothing_found m.2 in
-      subst (IsRoot t two_sights n) m.3 (record { is_allowed = refl; witness = found.1; division = found.0.division }))
+      subst (IsRoot t two_sights n) m.3 (record { is_allowed = refl; witness = found.has; division = found.of_n.division }))
   | inr i ↦ (let m = contains_mapped (root_with State) r.state.items root i in
       let found = all_at (IsFound t State n) r.state.items m.0 m.1 are.state_found m.2 in
-      subst (IsRoot t two_sights n) m.3 (record { is_allowed = refl; witness = found.1; division = found.0.division }))
+      subst (IsRoot t two_sights n) m.3 (record { is_allowed = refl; witness = found.has; division = found.of_n.division }))
 ]
 
 pub roots_sound : (t : TypeTable) (list : List Roots) (count : ℕ) → EachAt (λ i r. AreAllOf (i + 2) r × AreRootsOf t (i + 2) r) count list → (m : ℕ) (root : Root) → Contains (all_roots list m) root → IsRoot t two_sights m root

@@ -1,13 +1,13 @@
 -- How many of the first teams have each size.
-use Rattle.std.proofs.Common.{ℕ, zero, suc, ◌≡◌, ◌≢◌, ◌+◌, ◌-◌, ◌*◌, ◌<◌, ◌≤◌, inl, inr, Bool, true, false, cond, List, [], ◌∷◌, length, map, get_or, refl, sym, ap, ◌∙◌, subst, arith, nat_eq, nat_lt}
+use Rattle.std.proofs.Common.{ℕ, zero, suc, ◌≡◌, ◌≢◌, ◌+◌, ◌-◌, ◌<◌, ◌≤◌, inl, inr, true, false, cond, List, [], ◌∷◌, length, map, get_or, refl, sym, ap, ◌∙◌, arith, nat_eq, nat_lt}
 use Rattle.std.specs.List.{range_with_len}
 use Rattle.std.specs.Prelude.{All, slice_index, sum}
-use Rattle.std.proofs.lemmas.Bool.{cases_lt, eqb-true}
+use Rattle.std.proofs.lemmas.Bool.{cases_lt}
 use Rattle.std.proofs.lemmas.Bool.Decides.{nat_tests}
 use Rattle.std.proofs.lemmas.List.Elements.{All-head, All-tail}
 use Rattle.std.proofs.lemmas.List.FromFn.{get_or-map-range_with_len, length-map-range_with_len}
 use Rattle.cn_stocks.specs.Words.{times}
-use Rattle.cn_stocks.proofs.Times.{one, one_else, one_of, same_or, times_cons, times_none}
+use Rattle.cn_stocks.proofs.Times.{one, one_else, one_of, same_or, times_cons}
 use Rattle.cn_tree_costs.specs.Cost.{total}
 use Rattle.cn_tree_costs.specs.Sizes.{block, team_size}
 use Rattle.cn_shortest.proofs.Numbers.{sum_cons}
@@ -46,7 +46,7 @@ total_two P Q u v k lu lv ne same =
       | inr m ↦ other g m ∙ same g m n
     ]
 
-total_front : (P : ℕ → ℕ) (k : ℕ) → total P (suc k) ≡ P 0 + total (λ g. P (suc g)) k
+pub total_front : (P : ℕ → ℕ) (k : ℕ) → total P (suc k) ≡ P 0 + total (λ g. P (suc g)) k
 total_front P zero = omega arith
 total_front P (suc k) = omega (arith, total_front P k)
 

@@ -6,6 +6,7 @@ use Rattle.cn_meetings.specs.Meeting.{Sight}
 use Rattle.cn_trees.specs.Tree.{PlanTree}
 use Rattle.cn_tree_costs.specs.Cost as plans
 use Rattle.cn_tree_costs.specs.Cost.{IsLeastPlan, IsTreeFor, cost}
+use Rattle.cn_tree_plans.specs.Plan.{TreePlan, tree_of}
 use Rattle.cn_meetings.specs.Meeting.Sight.{Nothing, Response, State}
 use Rattle.cn_shortest.specs.Loads.{load_in}
 use Rattle.cn_shortest.specs.declared.least.Cost.{Cost}
@@ -29,6 +30,12 @@ pub record IsLeastCost (t : TypeTable) (allowed : Sight → Bool) (n : ℕ) (fou
     : Type 0 where
   pub plan : IfSome found (λ c. (T : PlanTree) × IsLeastPlan t allowed n T
       × (cost T ≡ cost_of c))
+  pub some : IsSome found ↔ ((T : PlanTree) × IsTreeFor t allowed n T)
+
+-- a least plan for n processes, which there is exactly if there is a tree for them
+pub record IsLeastPlanFound (t : TypeTable) (allowed : Sight → Bool) (n : ℕ)
+    (found : Option TreePlan) : Type 0 where
+  pub plan : IfSome found (λ plan. IsLeastPlan t allowed n (tree_of plan))
   pub some : IsSome found ↔ ((T : PlanTree) × IsTreeFor t allowed n T)
 
 -- the processes read the state, or do not look at it

@@ -1,10 +1,12 @@
 -- Sizes that two teams have as one, and lists of sizes.
-use Rattle.std.specs.Prelude.{ℕ, zero, suc, ◌≡◌, ◌+◌, ◌<◌, ◌≤◌, ◌⊎◌, ◌++◌, [], ◌∷◌, All, List, Some, slice_get, slice_index}
+use Rattle.std.specs.Prelude.{ℕ, zero, suc, ◌≡◌, ◌+◌, ◌<◌, ◌≤◌, ◌⊎◌, ◌++◌, [], ◌∷◌, All, List, Some, length, slice_get, slice_index}
 use Rattle.cn_choice.specs.declared.limits.TheConstants.{MOST_PROCESSES}
+use Rattle.cn_divisions.specs.Divisions as finest
 use Rattle.cn_divisions.specs.declared.divisions.Division.{Division}
 use Rattle.cn_meetings.specs.Meeting.{Sight}
 use Rattle.cn_table.specs.TypeTable.{TypeTable}
 use Rattle.cn_tree_costs.specs.Sizes.{HasSizes, IsDivision}
+use Rattle.cn_shortest.specs.Examples.{IsExample}
 use Rattle.cn_shortest.specs.Sizes.{AreCounts, AreMerged, AreOf, HasBoth, sizes_of}
 use Rattle.cn_shortest.specs.declared.sizes.Sizes.{Sizes}
 
@@ -20,9 +22,11 @@ Has list counts = (i : ℕ) × (s : Sizes) × (slice_get list i ≡ Some s) × A
 abbrev pub IsExtended : List Sizes → List Sizes → Type 0
 IsExtended old new = (more : List Sizes) × (new ≡ old ++ more)
 
--- some witness has these sizes, of two or more teams of n processes
-abbrev pub IsFound : TypeTable → Sight → ℕ → Sizes → Type 0
-IsFound t sight n s = AreOf n s.counts × HasSizes t sight (sizes_of s.counts)
+-- some witness has these sizes, of two or more teams of n processes, and the example is one
+pub record IsFound (t : TypeTable) (sight : Sight) (n : ℕ) (s : Sizes) : Type 0 where
+  pub of_n : AreOf n s.counts
+  pub has : HasSizes t sight (sizes_of s.counts)
+  pub example : IsExample t sight n s.counts s.example
 
 abbrev pub AreFound : TypeTable → Sight → ℕ → List Sizes → Type 0
 AreFound t sight n list = All (IsFound t sight n) list
@@ -43,9 +47,11 @@ AreWithin n (suc r) old new = AreWithin n r old new
     ⊎ ((mid : List ℕ) × (a : ℕ) × (b : ℕ) × AreWithin n r old mid × (1 ≤ a) × (1 ≤ b)
     × HasBoth mid a b × (a + b < n) × AreMerged mid a b new)
 
--- the sizes of a division
-abbrev pub HasSizesOf : ℕ → Division → Type 0
-HasSizesOf n d = IsDivision n d.sizes.items
+-- a division of n processes
+pub record HasSizesOf (n : ℕ) (d : Division) : Type 0 where
+  pub division : IsDivision n d.sizes.items
+  pub processes : length d.operations.items ≡ n
+  pub members : length d.teams.items ≡ n
 
 -- the list has what so many merges make of the sizes of each division
 abbrev pub HasAllWithin : ℕ → ℕ → List Division → List Sizes → Type 0
@@ -70,14 +76,14 @@ abbrev pub HaveSizes : ℕ → List Division → Type 0
 HaveSizes n divisions = (i : ℕ) (d : Division) → slice_get divisions i ≡ Some d
     → HasSizesOf n d
 
--- each is the division of a witness
-abbrev pub AreWitnesses : TypeTable → Sight → List Division → Type 0
-AreWitnesses t sight divisions = (i : ℕ) (d : Division) → slice_get divisions i ≡ Some d
-    → HasSizes t sight d.sizes.items
+-- each is a finest division, which is a witness
+abbrev pub AreWitnesses : TypeTable → Sight → ℕ → List Division → Type 0
+AreWitnesses t sight n divisions = (i : ℕ) (d : Division) → slice_get divisions i ≡ Some d
+    → HasSizes t sight d.sizes.items × finest.IsDivision t sight n d
 
 -- the sizes of these divisions and of all coarser ones
 pub record AreSizesOf (n : ℕ) (divisions : List Division) (list : List Sizes) : Type 0 where
   pub of_n : AreAll n list
-  pub found : (t : TypeTable) (sight : Sight) → AreWitnesses t sight divisions
+  pub found : (t : TypeTable) (sight : Sight) → AreWitnesses t sight n divisions
       → AreFound t sight n list
   pub all : HasAllWithin n MOST_PROCESSES divisions list

@@ -1,23 +1,19 @@
 //! The cost of a least plan tree.
-ghost use Rattle.std.specs.Prelude.{◌≡◌, ◌<◌, ◌≤◌, ◌+◌, ℕ, Bool, IfOk, IfSome, None, Some, length, slice_get};
+ghost use Rattle.std.specs.Prelude.{◌≡◌, ◌≤◌, ◌+◌, Bool, IfOk, IfSome, None, Some, length};
 ghost use Rattle.cn_choice.specs.declared.limits.TheConstants.{MOST_PROCESSES};
-ghost use Rattle.cn_divisions.specs.Divisions.{AreDivisions};
-ghost use Rattle.cn_stocks.specs.Each.{EachAt};
 ghost use Rattle.cn_meetings.specs.Meeting.{Sight};
 ghost use Rattle.cn_table.specs.TypeTable.{TypeTable};
 ghost use Rattle.cn_tree_costs.specs.Least.{AreRoots};
 ghost use Rattle.cn_shortest.specs.Costs.{HaveNoLoad, IsFirstCost, IsLeastCost, two_sights};
-ghost use Rattle.cn_shortest.specs.Loads.{AreAllOf, all_roots};
+ghost use Rattle.cn_shortest.specs.Loads.{all_roots, table_of};
+ghost use Rattle.cn_shortest.specs.Searches.{IsSearch};
 ghost use Rattle.cn_shortest.specs.declared.loads.TheConstants.{MOST_STEPS};
-ghost use Rattle.cn_shortest.specs.declared.roots.Roots.{Roots};
 
-use crate::loads::{MOST_STEPS, Row, rows};
-use crate::roots::{Roots, find_roots};
+use crate::loads::{MOST_STEPS, Row};
+use crate::search::Search;
 use cn_choice::MOST_PROCESSES;
-use cn_divisions::laws::finest_divisions_are_witnesses;
-use cn_divisions::{Divisions, find_divisions};
 use cn_table::Table;
-use cn_tree_costs::laws::{loads_are_least_costs, sizes_are_kept};
+use cn_tree_costs::laws::loads_are_least_costs;
 use std::alloc::{AllocError, Global};
 
 /// What a plan tree costs. The steps decide, then the objects, then the sum.
@@ -29,31 +25,6 @@ pub struct Cost {
     pub nodes: u32,
     /// The own steps of all processes together.
     pub sum: u32,
-}
-
-/// The roots of 2 processes, of 3 and so on.
-fn roots_of_all(
-    alloc: Global,
-    table: &Table,
-    divisions: &[Divisions],
-) -> Result<Vec<Roots>, AllocError>
-    requires few { length divisions.now < MOST_PROCESSES }
-    requires divisions { EachAt (λ i d. AreDivisions table.now (i + 2) d) (length divisions.now)
-        divisions.now }
-    ensures each { IfOk result (λ roots. EachAt (λ i r. AreAllOf (i + 2) r) (length divisions.now)
-        roots.items) }
-    ensures are { IfOk result (λ roots. AreRoots table.now two_sights (length divisions.now + 1)
-        (all_roots roots.items)) }
-{
-    sizes_are_kept();
-    finest_divisions_are_witnesses();
-    let _table = table;
-    let mut all = Vec::new(alloc);
-    for place in 0..divisions.len() {
-        let here = find_roots(alloc, &divisions[place], place as u8 + 2)?;
-        all.push(here)?;
-    }
-    Ok(all)
 }
 
 /// The cost by the least bound that has a load.
@@ -73,20 +44,21 @@ fn first_cost(row: &Row) -> Option<Cost>
     None
 }
 
-/// The cost of a least plan tree, whose nodes have these roots: those of 2 processes, of 3 and so
-/// on. It is for one process more than there are roots. `None` if there is no such tree.
-fn cost_of_roots(alloc: Global, roots: &[Roots]) -> Result<Option<Cost>, AllocError>
-    requires some { 1 ≤ length roots.now }
-    requires few { length roots.now < MOST_PROCESSES }
-    requires roots { (i : ℕ) (here : Roots) → slice_get roots.now i ≡ Some here
-        → AreAllOf (i + 2) here }
-    ensures { IfOk result (λ c. (t : TypeTable) (allowed : Sight → Bool)
-        → AreRoots t allowed (length roots.now + 1) (all_roots roots.now)
-        → IsLeastCost t allowed (length roots.now + 1) c) }
+/// The cost of a least plan tree for n processes, as many as the search has. `None` if there is no
+/// such tree.
+pub(crate) fn cost_in(found: &Search, n: u8) -> Option<Cost>
+    requires found { IsSearch found.now }
+    requires some { 2 ≤ n }
+    requires most { length found.now.roots.items + 1 ≡ n }
+    ensures cost { (t : TypeTable) (allowed : Sight → Bool)
+        → AreRoots t allowed n (all_roots found.now.roots.items)
+        → IsLeastCost t allowed n result }
+    ensures load { IfSome result (λ c. (c.steps ≤ MOST_STEPS)
+        × (table_of found.now.rows.items n c.steps
+        ≡ Some (record { nodes = c.nodes; sum = c.sum }))) }
 {
     loads_are_least_costs();
-    let rows = rows(alloc, roots)?;
-    Ok(first_cost(&rows[roots.len()]))
+    first_cost(&found.rows[n as usize - 1])
 }
 
 /// The cost of a least plan tree for n processes, from 2 to [`MOST_PROCESSES`], at each node of
@@ -101,8 +73,6 @@ pub fn least_cost(alloc: Global, table: &Table, n: u8) -> Result<Option<Cost>, A
     // promise: least-cost (IsLeastCost: IsLeastPlan)
     ensures { IfOk result (IsLeastCost table.now two_sights n) }
 {
-    let divisions = find_divisions(alloc, table, n)?;
-    let roots = roots_of_all(alloc, table, divisions.as_slice())?;
-    let cost = cost_of_roots(alloc, roots.as_slice())?;
-    Ok(cost)
+    let found = Search::new(alloc, table, n)?;
+    Ok(cost_in(&found, n))
 }

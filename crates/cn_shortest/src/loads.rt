@@ -102,7 +102,7 @@ fn load_of_teams(rows: &[Row], budget: usize, sizes: &Sizes) -> Option<Load>
 }
 
 /// The steps of a process at a node, by how it looks.
-fn price(sight: Sight) -> usize
+pub(crate) fn price(sight: Sight) -> usize
     ensures { result ≡ price_of (sight_of sight) }
 {
     match sight {
@@ -113,7 +113,7 @@ fn price(sight: Sight) -> usize
 
 /// The load of a root with teams of these sizes, of one process more than the rows have. Its price
 /// has to be within the steps.
-fn load_of_root(rows: &[Row], budget: usize, sight: Sight, sizes: &Sizes) -> Option<Load>
+pub(crate) fn load_of_root(rows: &[Row], budget: usize, sight: Sight, sizes: &Sizes) -> Option<Load>
     requires few { length rows.now < MOST_PROCESSES }
     requires budget { budget ≤ MOST_STEPS }
     requires paid { price_of (sight_of sight) ≤ budget }
@@ -186,6 +186,7 @@ pub(crate) fn rows(alloc: Global, roots: &[Roots]) -> Result<Vec<Row>, AllocErro
     ensures long { IfOk result (λ rows. length rows.items ≡ length roots.now + 1) }
     ensures table { IfOk result (λ rows. IsLoadTable (all_roots roots.now) (length roots.now + 1)
         MOST_STEPS (table_of rows.items)) }
+    ensures small { IfOk result (λ rows. IsSmallTable (table_of rows.items)) }
 {
     let mut rows = Vec::new(alloc);
     rows.push(Row {

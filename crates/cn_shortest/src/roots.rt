@@ -1,12 +1,15 @@
 //! The roots that a plan tree may have: how the processes look, and the sizes of the teams.
 ghost use Rattle.std.specs.Prelude.{◌≡◌, ◌<◌, ◌≤◌, ◌+◌, ℕ, IfOk, IsTrue, Some, length, slice_get};
 ghost use Rattle.cn_choice.specs.declared.limits.TheConstants.{MOST_PROCESSES};
+ghost use Rattle.cn_divisions.specs.Divisions.{IsDivision};
 ghost use Rattle.cn_meetings.specs.Meeting.{Sight as MeetingSight};
 ghost use Rattle.cn_table.specs.TypeTable.{TypeTable};
-ghost use Rattle.cn_shortest.specs.Roots.{AreAll, AreFound, AreSizesOf, AreWitnesses, Has, HasAllMerged, HasAllWithin, HasMerged, HaveSizes, IsAdded, IsExtended, IsFound, StayFound};
-ghost use Rattle.cn_shortest.specs.Sizes.{AreOf};
+ghost use Rattle.cn_shortest.specs.Roots.{AreAll, AreFound, AreSizesOf, AreWitnesses, Has, HasAllMerged, HasAllWithin, HasMerged, HasSizesOf, HaveSizes, IsAdded, IsExtended, IsFound, StayFound};
+ghost use Rattle.cn_shortest.specs.Examples.{IsExample};
+ghost use Rattle.cn_shortest.specs.Sizes.{AreCounts, AreOf};
 ghost use Rattle.cn_shortest.specs.declared.sizes.Sizes.{Sizes};
 
+use crate::examples::example_of;
 use crate::sizes::{Sizes, count, merge};
 use cn_choice::MOST_PROCESSES;
 use cn_divisions::{Division, Divisions};
@@ -103,21 +106,33 @@ fn coarsen(list: &mut Vec<Sizes>, n: u8) -> Result<(), AllocError>
     Ok(())
 }
 
+/// The sizes of this division, with it as their example.
+fn sizes_of_division(division: &Division, n: u8) -> Sizes
+    requires n { n ≤ MOST_PROCESSES }
+    requires division { HasSizesOf n division.now }
+    ensures counts { AreCounts division.now.sizes.items result.counts }
+    ensures example { (t : TypeTable) (sight : MeetingSight) → IsDivision t sight n division.now
+        → IsExample t sight n result.counts result.example }
+{
+    Sizes {
+        counts: count(division.sizes.as_slice()),
+        example: example_of(division, n),
+    }
+}
+
 /// The sizes of these divisions.
 fn finest_sizes(alloc: Global, divisions: &[Division], n: u8) -> Result<Vec<Sizes>, AllocError>
     requires n { n ≤ MOST_PROCESSES }
     requires divisions { HaveSizes n divisions.now }
     ensures of_n { IfOk result (λ list. AreAll n list.items) }
     ensures found { IfOk result (λ list. (t : TypeTable) (sight : MeetingSight)
-        → AreWitnesses t sight divisions.now → AreFound t sight n list.items) }
+        → AreWitnesses t sight n divisions.now → AreFound t sight n list.items) }
     ensures all { IfOk result (λ list. HasAllWithin n 0 divisions.now list.items) }
 {
     sizes_are_kept();
-    let _n = n;
     let mut list = Vec::new(alloc);
     for place in 0..divisions.len() {
-        let sizes = count(divisions[place].sizes.as_slice());
-        add(&mut list, sizes)?;
+        add(&mut list, sizes_of_division(&divisions[place], n))?;
     }
     Ok(list)
 }

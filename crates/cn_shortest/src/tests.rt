@@ -1,5 +1,6 @@
-//! Costs of worked types.
+//! Costs and plans of worked types.
 use crate::least::{Cost, least_cost};
+use crate::plan::shortest_plan;
 use cn_table::read_table;
 use std::process::Abort;
 use std::test::Fail;
@@ -110,5 +111,37 @@ fn compare_and_swap_for_four(rt: HostRuntime) -> Result<(), Fail> {
             sum: 12
         })
     );
+    Ok(())
+}
+
+#[test]
+fn three_sticky_bits_for_four(rt: HostRuntime) -> Result<(), Fail> {
+    let table = read_table(rt.alloc(), sticky_bit().as_bytes())?;
+    let Some(plan) = shortest_plan(rt.alloc(), &table, 4)? else {
+        panic!(rt; "no plan")
+    };
+    let cost = plan.cost();
+    assert!(rt; cost.steps == 6 && cost.nodes == 3 && cost.sum == 24);
+    assert!(rt; plan.nodes() == 3);
+    assert!(rt; plan.team_count(0) == 2 && plan.size(1) == 2 && plan.size(2) == 2);
+    Ok(())
+}
+
+#[test]
+fn one_compare_and_swap_for_eight(rt: HostRuntime) -> Result<(), Fail> {
+    let table = read_table(rt.alloc(), compare_and_swap().as_bytes())?;
+    let Some(plan) = shortest_plan(rt.alloc(), &table, 8)? else {
+        panic!(rt; "no plan")
+    };
+    let cost = plan.cost();
+    assert!(rt; cost.steps == 3 && cost.nodes == 1 && cost.sum == 24);
+    Ok(())
+}
+
+#[test]
+fn no_plan_of_test_and_set_for_three(rt: HostRuntime) -> Result<(), Fail> {
+    let table = read_table(rt.alloc(), test_and_set().as_bytes())?;
+    let plan = shortest_plan(rt.alloc(), &table, 3)?;
+    assert!(rt; plan.is_none());
     Ok(())
 }

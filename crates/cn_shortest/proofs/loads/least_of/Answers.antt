@@ -1,11 +1,11 @@
-use Rattle.std.proofs.Common.{[], ◌≡◌, ◌+◌, ◌∙◌, arith, ap, sym, inl, inr, length, get_or, slice_get}
+use Rattle.std.proofs.Common.{◌≡◌, ◌+◌, ◌∙◌, arith, ap, sym, inl, inr, length, get_or, slice_get}
 use Rattle.std.proofs.lemmas.Option.{none-some, same_Some, slice_get-get_or, slice_get_within}
 use Rattle.cn_shortest.specs.Sights.{sight_of}
 use Rattle.cn_tree_costs.specs.Least.{Root, load_of_root}
 use Rattle.cn_tree_costs.specs.Sizes.{price}
 use Rattle.cn_shortest.specs.Loads.{load_of, root_with, table_of}
 use Rattle.cn_shortest.specs.declared.sizes.Sizes.{Sizes}
-use Rattle.cn_shortest.proofs.Elements.{below_or_last, contains_mapped, mapped_at}
+use Rattle.cn_shortest.proofs.Elements.{below_or_last, contains_mapped, mapped_at, no_sizes}
 use Rattle.cn_shortest.proofs.Lesser.{at_most_trans}
 use Rattle.cn_shortest.proofs.loads.least_of.Goals as goal
 
@@ -27,7 +27,7 @@ loop-place-preserved c =
     let sight = sight_of c.args.sight in
     let best = table_of c.args.rows.now in
     let n = length c.args.rows.now + 1 in
-    let none : Sizes = record { counts = [] } in
+    let none : Sizes = no_sizes in
     let s = get_or list k none in
     let here = slice_get-get_or list k none c.loop-place-test.true in
     record {

@@ -21,8 +21,8 @@ loop-b-preserved c =
     let lb = c.loop-b.auto.b in
     elim c.match-merge.branch [
       | in-Some+in_ok-add w ↦ subst (λ (v : Vec Sizes Global). MergedTo n sizes first v.items a (b + 1)) (sym w.list-is)
-          (merged_more n sizes first old a b c.requires.n la lb c.requires.sizes c.loop-b.invariant w.add.new.list.items w.in-Some.merged w.in-Some.ensures.merged w.in-Some.ensures.has
-          c.sizes_are_kept.ensures.any_order c.sizes_are_kept.ensures.merged w.in_ok-add.ensures.added w.in_ok-add.ensures.has)
+          (merged_more n sizes first old a b c.requires.n la lb c.requires.sizes c.loop-b.invariant w.add.new.list.items w.in-Some.merged w.in-Some.ensures.merged.0 (w.in-Some.ensures.merged.1, w.in-Some.ensures.merged.2)
+          c.sizes_are_kept.ensures.any_order c.sizes_are_kept.ensures.merged w.in-Some.ensures.example w.in_ok-add.ensures.added w.in_ok-add.ensures.has)
       | in_default w ↦ subst (λ (v : Vec Sizes Global). MergedTo n sizes first v.items a (b + 1)) (sym w.list-is)
           (merged_none n sizes first old a b c.requires.n la lb c.requires.sizes c.loop-b.invariant (λ both lt. true≢false (sym (c.merge.ensures.all both lt) ∙ ap is_some w.in_default.is)))
     ]

@@ -9,6 +9,6 @@ use Rattle.cn_shortest.proofs.roots.finest_sizes.Given as goal
 abbrev pub invariant-loop-place : goal.invariant-loop-place
 invariant-loop-place l = record {
   of_n : AreAll l.fn.n l.list.items;
-  found : (t : TypeTable) (sight : Sight) → AreWitnesses t sight l.divisions → AreFound t sight l.fn.n l.list.items;
+  found : (t : TypeTable) (sight : Sight) → AreWitnesses t sight l.fn.n l.divisions → AreFound t sight l.fn.n l.list.items;
   all : (i : ℕ) (d : Division) (old : List ℕ) → i < l.place → slice_get l.divisions i ≡ Some d → AreCounts d.sizes.items old → Has l.list.items old;
 }

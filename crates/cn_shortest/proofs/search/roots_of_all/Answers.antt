@@ -9,7 +9,7 @@ use Rattle.cn_shortest.proofs.Dividing.{division_found, witness_found}
 use Rattle.cn_shortest.proofs.Elements.{all_at}
 use Rattle.cn_shortest.proofs.Enough.{roots_enough}
 use Rattle.cn_shortest.proofs.Sound.{AreRootsOf}
-use Rattle.cn_shortest.proofs.least.roots_of_all.Goals as goal
+use Rattle.cn_shortest.proofs.search.roots_of_all.Goals as goal
 
 pub find_roots-requires-clause-state : goal.find_roots-requires-clause-state
 find_roots-requires-clause-state c i d e =
@@ -18,7 +18,8 @@ find_roots-requires-clause-state c i d e =
     let D = c.index-divisions-place.result in
     let at = slice_get_read c.args.divisions.now (length c.args.divisions.now) k D refl c.loop-place-test.true c.index-divisions-place.is in
     let are = (c.requires.divisions.1 k D at).0 in
-    division_found t State (k + 2) d (all_at (IsDivision t State (k + 2)) D.state.items i d are.are e) c.sizes_are_kept.ensures.all_counted
+    let here = all_at (IsDivision t State (k + 2)) D.state.items i d are.are e in
+    record { division = division_found t State (k + 2) d here c.sizes_are_kept.ensures.all_counted; processes = here.processes; members = here.members }
 
 pub find_roots-requires-clause-nothing : goal.find_roots-requires-clause-nothing
 find_roots-requires-clause-nothing c i d e =
@@ -27,7 +28,8 @@ find_roots-requires-clause-nothing c i d e =
     let D = c.index-divisions-place.result in
     let at = slice_get_read c.args.divisions.now (length c.args.divisions.now) k D refl c.loop-place-test.true c.index-divisions-place.is in
     let are = (c.requires.divisions.1 k D at).1 in
-    division_found t Nothing (k + 2) d (all_at (IsDivision t Nothing (k + 2)) D.nothing.items i d are.are e) c.sizes_are_kept.ensures.all_counted
+    let here = all_at (IsDivision t Nothing (k + 2)) D.nothing.items i d are.are e in
+    record { division = division_found t Nothing (k + 2) d here c.sizes_are_kept.ensures.all_counted; processes = here.processes; members = here.members }
 
 pub loop-place-preserved : goal.loop-place-preserved
 loop-place-preserved c =
@@ -48,8 +50,8 @@ loop-place-preserved c =
         are = are;
         state = f.state;
         nothing = f.nothing;
-        state_found = f.state.found t State (λ i d e. witness_found t State n d (all_at (IsDivision t State n) D.state.items i d are.0.are e) tt witness (laws.counted t State) (laws.any_order t State) (laws.smaller t State));
-        nothing_found = f.nothing.found t Nothing (λ i d e. witness_found t Nothing n d (all_at (IsDivision t Nothing n) D.nothing.items i d are.1.are e) tt witness (laws.counted t Nothing) (laws.any_order t Nothing) (laws.smaller t Nothing));
+        state_found = f.state.found t State (λ i d e. (let here = all_at (IsDivision t State n) D.state.items i d are.0.are e in (witness_found t State n d here tt witness (laws.counted t State) (laws.any_order t State) (laws.smaller t State), here)));
+        nothing_found = f.nothing.found t Nothing (λ i d e. (let here = all_at (IsDivision t Nothing n) D.nothing.items i d are.1.are e in (witness_found t Nothing n d here tt witness (laws.counted t Nothing) (laws.any_order t Nothing) (laws.smaller t Nothing), here)));
       },
     )
 
@@ -63,3 +65,6 @@ returns-clause-are c =
     let end : c.loop-place.place ≡ length c.args.divisions.now = omega (arith, c.loop-place-test.false, c.loop-place.auto.place-end) in
     roots_enough c.args.table.now c.loop-place.all.items (length c.args.divisions.now) (let few = c.requires.few in omega (arith, few))
     (subst (λ k. EachAt (λ i x. AreAllOf (i + 2) x × AreRootsOf c.args.table.now (i + 2) x) k c.loop-place.all.items) end c.loop-place.invariant)
+
+pub returns-clause-examples : goal.returns-clause-examples
+returns-clause-examples c i r e = (let h = (c.loop-place.invariant.1 i r e).1 in (h.state_found, h.nothing_found))
