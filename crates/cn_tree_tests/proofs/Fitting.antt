@@ -22,18 +22,18 @@ bits_fit t some two = record { count = refl; starts = starts; sizes = sizes; ope
     starts zero lt = some
     starts (suc zero) lt = some
     starts (suc (suc zero)) lt = some
-    starts (suc (suc (suc v))) lt = absurd cc
+    starts (suc (suc (suc v))) lt = absurd (omega arith)
 
     sizes : (v : ℕ) → v < 3 → length (slice_index_or bits v no_meeting).operations ≡ members (node_at four v).teams
     sizes zero lt = refl
     sizes (suc zero) lt = refl
     sizes (suc (suc zero)) lt = refl
-    sizes (suc (suc (suc v))) lt = absurd cc
+    sizes (suc (suc (suc v))) lt = absurd (omega arith)
 
     pair : (k : ℕ) → k < 2 → slice_index (0 ∷ 1 ∷ []) k < length t.operations
     pair zero lt = omega arith
     pair (suc zero) lt = two
-    pair (suc (suc k)) lt = absurd cc
+    pair (suc (suc k)) lt = absurd (omega arith)
 
     operations : (v k : ℕ) → v < 3 → k < members (node_at four v).teams
         → slice_index (slice_index_or bits v no_meeting).operations k < length t.operations
@@ -41,7 +41,7 @@ bits_fit t some two = record { count = refl; starts = starts; sizes = sizes; ope
     operations zero (suc zero) lv lk = omega arith
     operations zero (suc (suc zero)) lv lk = two
     operations zero (suc (suc (suc zero))) lv lk = two
-    operations zero (suc (suc (suc (suc k)))) lv lk = absurd cc
+    operations zero (suc (suc (suc (suc k)))) lv lk = absurd (omega arith)
     operations (suc zero) k lv lk = pair k lk
     operations (suc (suc zero)) k lv lk = pair k lk
-    operations (suc (suc (suc v))) k lv lk = absurd cc
+    operations (suc (suc (suc v))) k lv lk = absurd (omega arith)
