@@ -35,14 +35,15 @@ _cnum() {
         [[ $previous == --as ]] && values='text json markdown'
         ;;
     show)
-        options='--as --table -h --help' arguments='CERT FILE'
+        options='--shortest --processes --as --table -h --help' arguments='CERT FILE'
+        [[ $previous == --processes ]] && values='2 3 4 5 6 7 8'
         [[ $previous == --as ]] && values='text json dot promela rust c'
         ;;
     draw)
         options='--table -h --help' arguments='FILE'
         ;;
     agree)
-        options='--steps --recoverable --processes --as --table -h --help' arguments='CERT INPUTS SCHEDULE FILE'
+        options='--steps --recoverable --shortest --processes --as --table -h --help' arguments='CERT INPUTS SCHEDULE FILE'
         [[ $previous == --processes ]] && values='2 3 4 5 6 7 8'
         [[ $previous == --as ]] && values='text json'
         ;;

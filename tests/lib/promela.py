@@ -1,8 +1,15 @@
 """Reads and walks through the models that `show --as promela` writes, by the part of Promela that they use: arrays
 and variables of bytes, one macro, one inline, processes of atomic blocks with if, goto, assert and assignments.
-It knows nothing of plans: a model does what its text says.
+It knows nothing of plans: a model does what its text says. And the runs of `spin` over models.
 """
+import pathlib
 import re
+import shutil
+import subprocess
+import tempfile
+
+# Whether models can be handed to `spin` here.
+SPINS = all(map(shutil.which, ("spin", "cc")))
 
 TOKEN = re.compile(r"\s*(->|::|\+\+|==|!=|<=|&&|\|\||[-+*<>=;:,(){}\[\]]|\w+)")
 PYTHON = {"&&": " and ", "||": " or "}
@@ -262,3 +269,16 @@ def changed(world, place, value):
 
 def increased(world, place):
     return changed(world, place, world[place] + 1)
+
+
+def spun(text):
+    """How many errors `spin` finds in a model. None if it does not come to an end."""
+    with tempfile.TemporaryDirectory() as room:
+        (pathlib.Path(room) / "model.pml").write_text(text)
+        run = lambda *words: subprocess.run(words, cwd=room, capture_output=True, text=True, check=True).stdout
+        run("spin", "-a", "model.pml")
+        run("cc", "-O0", "-DSAFETY", "-DMEMLIM=2048", "-o", "pan", "pan.c")
+        said = run("./pan", "-m100000")
+        errors = re.search(r"errors: (\d+)", said)
+        whole = "Search not completed" not in said or errors[1] != "0"
+        return int(errors[1]) if whole and errors else None

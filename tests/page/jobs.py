@@ -24,6 +24,8 @@ BIT, COUNTER = TABLES["types/test_and_set"], TABLES["types/counter_3"]
 NO_THREAD = b"", b"cnum: cannot start a thread\n", 4
 # Steps and crashes of two processes.
 CRASHES = "0,1,0,1,c1,0,0,0,0,0,1,1,1,1,1,1,c0,0,0,0,c0,c1,1,1,1"
+# Types, each with a number of processes, whose shortest plans have two and more teams at a node, and one node and several.
+PLANS = [("types/sticky_bit", 8), ("types/three_shot", 3), ("catalogue/queue_2", 8), ("catalogue/cas_4", 8), ("catalogue/cas_6", 5)]
 COMMANDS = ("find", "classify", "lint", "check", "explain", "why", "pairs", "show", "draw", "agree", "replay", "serve")
 
 
@@ -66,6 +68,8 @@ class Jobs:
             as_forms = (["check", "--as", "json", "C"], ["show", "--as", "promela", "C"])
             for words in (["check", "C"], ["explain", "C"], ["show", "C"], *as_forms, ["agree", "C", "1,2", "0,1,0,1"]):
                 self.run(words, BIT, C=certificate)
+        for name, n in PLANS:
+            self.of_plan(TABLES[name], n)
         self.of_words()
         self.of_rows()
 
@@ -97,6 +101,8 @@ class Jobs:
             self.run(["why", "--without-read", "--all", "--as", form, "-"], table)
         for n, inputs in (("2", "1,2"), ("3", "1,2,3")):
             self.run(["agree", "--recoverable", "--processes", n, "--steps", "--as", "json", "-", inputs, CRASHES], table)
+            self.run(["show", "--shortest", "--processes", n], table)
+            self.run(["agree", "--shortest", "--processes", n, "--steps", "-", inputs, "1,1,0,0,0,1,0,1,0,1"], table)
         self.run(["classify", "--limit", "3", "T", "-", "T"], table, T=table)
         unread = self.run(["find", "--without-read"], table)
         if 0 < len(unread) < MOST_CERTIFICATE:
@@ -119,10 +125,19 @@ class Jobs:
         self.run(["replay", "--as", "json", "C", "O", "0", "4", "@E"], table, C=certificate, O=COUNTER, E=events.encode() + b"\n")
         self.run(["serve", "C", "O", "0", "4", "/".join(["0,0"] + ["none"] * (n - 1))], table, C=certificate, O=COUNTER)
 
+    def of_plan(self, table, n):
+        for form in ("text", "json", "dot", "promela", "rust", "c"):
+            self.run(["show", "--shortest", "--processes", str(n), "--as", form, "-"], table)
+        for schedule in ([(k * 5 + k // 3) % n for k in range(12 * n)], [k % n for k in range(12 * n)], [0]):
+            words = [",".join(map(str, its)) for its in (range(1, 1 + n), schedule)]
+            self.run(["agree", "--shortest", "--processes", str(n), "--steps", "--as", "json", "-", *words], table)
+        self.run(["agree", "--shortest", "--steps", "-", "1,2", "0,1,0,1,0,1"], table)
+
     def of_words(self):
         refused = [["find", "--limit", "9"], ["find", "--limit", "0"], ["find", "--limit", "x"], ["find"], ["nosuch"], [], ["lint", "extra"]]
         refused += [["check", "missing"], ["check", "constructor"], ["show", "--as", "x", "C"], ["lint", "\xe4"], ["why", "--recoverable", "--limit", "3", "-"]]
         refused += [["classify", "--without-read", "--limit", "3", "-"], ["why", "--without-read", "--recoverable", "-"], ["find", "--without-read", "--limit", "3"]]
+        refused += [["show"], ["show", "--shortest", "C", "-"], ["agree", "--shortest", "--recoverable", "-", "1,2", "0"]]
         for words in [*refused, ["--help"], ["-h"], ["--version"], ["help"], *([it, "--help"] for it in COMMANDS)]:
             self.run(words, BIT)
 

@@ -6,7 +6,7 @@ const { describe, it } = require('node:test');
 const vm = require('node:vm');
 
 const WEB = path.join(__dirname, '../../web');
-const PARTS = ['texts_en', 'texts_de', 'texts', 'elements', 'answers', 'run', 'lives', 'link', 'table_text', 'table_edits', 'flaw_places', 'notes'];
+const PARTS = ['texts_en', 'texts_de', 'texts', 'elements', 'answers', 'plans', 'run', 'lives', 'link', 'table_text', 'table_edits', 'flaw_places', 'notes'];
 PARTS.push('past', 'example_search', 'comparison', 'schedules', 'space_time', 'tournament', 'dot', 'points', 'layout');
 PARTS.push('reason_parts', 'explanation', 'picture', 'two_runs', 'unread_explanation');
 
@@ -86,6 +86,7 @@ describe('links', () => {
         ['#inputs=1,abc', 'a process proposes “abc” in it, and that is no number.'],
         ['#inputs=1,', 'a process proposes “” in it, and that is no number.'],
         ['#inputs=18446744073709551616', 'a process proposes “18446744073709551616” in it, and that is no number.'],
+        ['#plan=other', 'it says “plan=other”, and the page knows only “plan=shortest” and “plan=certificate”.'],
         ['#view=all', 'it shows the part “all” alone, and the page has number, why, states, run and pairs.'],
         ['#exmaple=types/idle', 'it says “exmaple”, which the page does not know.'],
         ['#example=types/idle&table=AAAA', 'it names both an example and a table.'],
@@ -94,7 +95,7 @@ describe('links', () => {
 });
 
 describe('a run', () => {
-    const PLAN = { nodes: 1, processes: 2, start: 'zero' };
+    const PLAN = { nodes: [{ start: 'zero', teams: ['A', 'B'] }], processes: 2 };
     const ACTS = [step(0), step(1), step(1), step(1), step(1), step(1), stop(1), step(0), stop(0), step(0)];
     const STEPS = [
         { action: 'write', node: 0, process: 0, team: 'A', value: 10 },
@@ -120,7 +121,7 @@ describe('a run', () => {
 
     it('tells what holds after it', () => {
         const { nodes, processes } = run.after(events, PLAN);
-        assert.deepEqual([nodes[0].state, nodes[0].A, nodes[0].B], ['one', '10', '20']);
+        assert.deepEqual([nodes[0].state, nodes[0].registers], ['one', { A: '10', B: '20' }]);
         const first = { steps: 2, decision: null, crashes: 0, hasStopped: true };
         assert.deepEqual(processes, [first, { steps: 4, decision: '20', crashes: 0, hasStopped: false }]);
         assert.deepEqual(run.active(processes), []);
@@ -135,6 +136,77 @@ describe('a run', () => {
             assert.ok(marks[at].x - marks[at - 1].x >= widths[0] + widths[1], `place ${at}`);
         }
         assert.deepEqual(lines.map(it => it.to), [marks[6].x, marks[4].x]);
+    });
+});
+
+describe('a plan tree', () => {
+    // Three processes at an object that keeps the first value, which the third meets at the root.
+    const member = (process, team, operation) => ({ process, team, operation, judges: [] });
+    const TREE = {
+        type: 'sticky_bit',
+        processes: 3,
+        objects: 2,
+        steps: 6,
+        sum: 15,
+        nodes: [
+            { node: 0, start: 'unset', reads: false, first: 0, teams: [2, 1], processes: [member(0, 0, 'put0'), member(1, 0, 'put0'), member(2, 1, 'put1')] },
+            { node: 1, start: 'unset', reads: false, first: 0, teams: [1, 1], processes: [member(0, 0, 'put0'), member(1, 1, 'put1')] },
+        ],
+        paths: [
+            { process: 0, steps: 6, places: [{ node: 1, team: 0 }, { node: 0, team: 0 }] },
+            { process: 1, steps: 6, places: [{ node: 1, team: 1 }, { node: 0, team: 0 }] },
+            { process: 2, steps: 3, places: [{ node: 0, team: 1 }] },
+        ],
+    };
+    const [a, b] = [{ operation: 'put0', team: 'A' }, { operation: 'put1', team: 'B' }];
+    const PLAN = {
+        comeBack: false,
+        most: 6,
+        nodes: Array(2).fill({ start: 'unset', teams: ['A', 'B'], roles: [a, b] }),
+        paths: [[{ node: 1, ...a }, { node: 0, ...a }], [{ node: 1, ...b }, { node: 0, ...a }], [{ node: 0, ...b }]],
+        processes: 3,
+        reads: false,
+        steps: [6, 6, 3],
+    };
+
+    it('leaves the witness of the certificate in the picture of the states', () => {
+        const { text } = Cnum.examples.flatMap(group => group.types).find(it => it.path === 'types/sticky_bit');
+        assert.deepEqual(Cnum.plans.ofWitness([0, [0], [1, 1]], text), { start: 'unset', roles: [a, b, b] });
+    });
+
+    it('has the form of each plan', () => assert.deepEqual(Cnum.plans.ofTree(TREE), PLAN));
+
+    it('reads objects if the processes of a node do', () => {
+        const [root, below] = TREE.nodes;
+        assert.equal(Cnum.plans.ofTree({ ...TREE, nodes: [root, { ...below, reads: true }] }).reads, true);
+    });
+
+    it('has a start and teams for each node, which may differ', () => {
+        const [root, below] = TREE.nodes;
+        const other = { ...below, start: 'one', teams: [1, 1, 1], processes: [member(1, 1, 'put1'), member(0, 0, 'put1')] };
+        const { nodes } = Cnum.plans.ofTree({ ...TREE, nodes: [root, other] });
+        const [ofA, ofB] = ['A', 'B'].map(team => ({ operation: 'put1', team }));
+        assert.deepEqual(nodes, [PLAN.nodes[0], { start: 'one', teams: ['A', 'B', 'C'], roles: [ofA, ofB] }]);
+    });
+
+    it('has names for its teams, and tells a team without a read', () => {
+        const steps = [
+            { action: 'write', node: 0, process: 2, team: 1, value: 30 },
+            { action: 'apply', judged: 1, node: 0, operation: 'put1', process: 2, response: 'one' },
+            { action: 'decide', process: 2, value: 30 },
+        ];
+        const events = run.withStates(run.eventsOf(Array(3).fill(step(2)), steps), PLAN, () => 'one');
+        assert.deepEqual(events.map(it => [it.kind, it.team]), [['writes', 'B'], ['applies', 'B'], ['decides', undefined]]);
+        assert.deepEqual(run.after(events, PLAN).nodes[0].registers, { B: '30' });
+    });
+
+    it('is that of a certificate, if the link says so or an older page made it', async () => {
+        const shown = { example: 'types/idle', limit: null, inputs: ['1', '2'], acts: [step(0)] };
+        const linkOf = more => Cnum.linkOf({ ...shown, ...more });
+        assert.equal(await linkOf({ plan: 'shortest' }), '#example=types/idle&plan=shortest&inputs=1,2&run=0');
+        assert.equal(await linkOf({ plan: 'shortest', acts: [] }), '#example=types/idle');
+        assert.equal(await linkOf({ plan: 'certificate', acts: [] }), '#example=types/idle&plan=certificate');
+        assert.equal((await Cnum.linkedBy('#example=types/idle&plan=certificate')).plan, 'certificate');
     });
 });
 
@@ -154,13 +226,13 @@ describe('processes that come back', () => {
 
     it('have the plan by which each does its steps alone', () => {
         const roles = [{ operation: 'put0', team: 'A' }, { operation: 'put1', team: 'B' }];
-        const [a, b] = [{ team: 'A', role: 0 }, { team: 'B', role: 1 }];
+        const [a, b] = roles;
         const paths = [[{ node: 0, ...a }], [{ node: 1, ...a }, { node: 0, ...b }], [{ node: 1, ...b }, { node: 0, ...b }]];
-        assert.deepEqual(PLAN, { comeBack: true, nodes: 2, paths, processes: 3, roles, start: 'unset' });
-        assert.deepEqual([run.mostSteps(PLAN), run.mostSteps({ processes: 3 })], [12, 8]);
+        const [root, below] = [roles, roles].map(it => ({ start: 'unset', teams: ['A', 'B'], roles: it }));
+        assert.deepEqual(PLAN, { comeBack: true, most: 12, nodes: [root, below], paths, processes: 3, reads: true, steps: [6, 12, 12] });
         const ofB = [write(1, 0, 'B', 20), look(1, 0, 'unset'), apply(1, 0, 'put0', 'zero'), read(1, 0, 'zero', 'B'), decide(1, 20)];
         const both = [{ operation: 'put0', team: 'A' }, { operation: 'put0', team: 'B' }];
-        assert.deepEqual(Cnum.lives.planOf([first, ofB]).roles, both);
+        assert.deepEqual(Cnum.lives.planOf([first, ofB]).nodes[0].roles, both);
     });
 
     const ACTS = [...Array(5).fill(step(2)), step(2), crash(2), step(2), step(0), stop(0), crash(1), crash(0)];
@@ -184,7 +256,7 @@ describe('processes that come back', () => {
         assert.equal(Cnum.lives.forgottenBy(events, 2), events[6].forgot);
         assert.equal(Cnum.lives.forgottenBy(events, 0), null);
         const { nodes, processes } = run.after(events, PLAN);
-        assert.deepEqual(nodes.map(it => [it.state, it.A, it.B]), [['unset', '10', '30'], ['one', '', '30']]);
+        assert.deepEqual(nodes.map(it => [it.state, it.registers]), [['unset', { A: '10', B: '30' }], ['one', { B: '30' }]]);
         assert.deepEqual(processes.map(it => [it.steps, it.crashes, it.hasStopped]), [[1, 0, true], [0, 1, false], [1, 1, false]]);
     });
 
@@ -214,66 +286,121 @@ describe('processes that come back', () => {
     });
 });
 
+describe('a tournament', () => {
+    const LETTER = 8;
+    const widthOf = text => LETTER * text.length;
+    const [LINE, BOX, ABOVE, GAP] = [17, 28, 6, 22];
+
+    // A plan in which the processes meet as these lists say: in each list, the teams of a node. All do the same operation.
+    function planOf(teams, operation) {
+        const paths = Array.from({ length: teams.flat(Infinity).length }, () => []);
+        const nodes = [];
+        (function meet(its) {
+            const node = nodes.push({}) - 1;
+            its.forEach(it => Array.isArray(it) && meet(it));
+            its.forEach((it, team) => [it].flat(Infinity).forEach(process => paths[process].push({ node, team: Cnum.plans.NAMES[team], operation })));
+        })(teams);
+        return { processes: paths.length, nodes, paths };
+    }
+
+    // The boxes of a picture: those of the nodes and processes, and of the texts on them.
+    function boxesOf({ tree, heights }) {
+        const at = (x, width, bottom, height) => ({ left: x - width / 2, right: x + width / 2, top: bottom - height, bottom });
+        const ofPart = ({ node, process, x, floor }) => at(x, widthOf(`${node === undefined ? 'process' : 'node'} ${node || process || 0}`) + GAP, heights[floor].y + BOX / 2, BOX);
+        const ofWay = ({ rows, child: { x, floor } }) => at(x, Math.max(...rows.flat().map(widthOf)), heights[floor].y - BOX / 2 - ABOVE, LINE * rows.flat().length);
+        return [ofPart(tree), ...tree.ways.flatMap(it => [ofWay(it), ...boxesOf({ tree: it.child, heights })])];
+    }
+
+    const waysOf = tree => tree.ways.flatMap(it => [it, ...waysOf(it.child)]);
+    const meets = (p, q) => p.left < q.right && q.left < p.right && p.top < q.bottom && q.top < p.bottom;
+    const PLANS = {
+        'eight at one node': [0, 1, 2, 3, 4, 5, 6, 7],
+        'eight in pairs': [[[0, 1], [2, 3]], [[4, 5], [6, 7]]],
+        'eight in teams of three and two': [[0, 1, 2], [3, 4, 5], [6, 7]],
+        'eight one after the other': [0, [1, [2, [3, [4, [5, [6, 7]]]]]]],
+        'eight of whom the last meet first': [[[[[[[7, 6], 5], 4], 3], 2], 1], 0],
+        'two': [0, 1],
+    };
+    const LONG = 'compare_and_swap_of_two_far_words';
+
+    for (const [about, teams] of Object.entries(PLANS)) {
+        it(`of ${about} has room for each text, and fits into a window of 1280 points`, () => {
+            for (const operation of ['x', 'fetch_and_add_1', LONG.slice(0, 32), 'q'.repeat(32)]) {
+                const placed = Cnum.placeTournament(planOf(teams, operation), widthOf);
+                const boxes = boxesOf(placed);
+                assert.deepEqual(boxes.flatMap((p, k) => boxes.slice(k + 1).filter(q => meets(p, q))), [], operation);
+                assert.ok(boxes.every(it => it.left >= 0 && it.right <= placed.width && it.top >= 0 && it.bottom <= placed.height), operation);
+                assert.ok(placed.width <= 1180, `${operation}: ${placed.width}`);
+                for (const { team, rows, lines } of waysOf(placed.tree)) {
+                    assert.deepEqual(rows.map(it => it.join('')), lines.map(it => `${team} ${it.process}: ${operation}`));
+                }
+            }
+        });
+    }
+
+    it('has a text in one row, if there is room', () => {
+        const rowsOf = (teams, operation) => waysOf(Cnum.placeTournament(planOf(teams, operation), widthOf).tree).flatMap(it => it.rows);
+        assert.deepEqual(rowsOf([0, 1], LONG).map(it => it.length), [1, 1]);
+        assert.deepEqual(rowsOf([0, 1, 2, 3, 4, 5, 6, 7], LONG)[7], ['H 7: ', 'compare_and_', 'swap_of_two_', 'far_words']);
+    });
+});
+
 describe('an adversary', () => {
-    // Runs of processes that take so many steps each, and decide the value that `decide` gives.
+    // Runs of processes that take so many steps each, write the value that `decide` gives, and decide it.
     const runOf = (counts, decide) => schedule => {
         const taken = counts.map(() => 0);
         const events = [];
-        for (const act of schedule) {
+        for (const { process, does } of schedule) {
+            const act = { process, does, node: 0, team: 'A' };
             if (act.does === run.CRASH) taken[act.process] = 0;
             else if (taken[act.process]++ >= counts[act.process]) continue;
             const hasDecided = act.does === run.STEP && taken[act.process] === counts[act.process];
             const kind = act.does === run.CRASH ? 'crashes' : hasDecided ? 'decides' : 'writes';
-            events.push({ ...act, kind, ...(hasDecided && { value: decide(events, act.process) }) });
+            events.push({ ...act, kind });
+            if (kind !== 'crashes') events[events.length - 1].value = decide(events, act.process);
         }
         return { events, inputs: counts.map((_, process) => String(process)) };
     };
-    const always = () => '0';
-    const tried = (counts, decide, more) => Cnum.tryToBreak({ processes: counts.length, ...more }, async it => runOf(counts, decide)(it), () => {});
+    const first = events => String(events[0].process);
+    const planOf = (steps, more) => ({ processes: steps.length, steps, most: Math.max(...steps), nodes: [{ teams: ['A'] }], ...more });
+    const tried = (steps, decide, more) => Cnum.tryToBreak(planOf(steps, more), async it => runOf(steps, decide)(it), () => {});
 
-    it('tries each schedule of two processes once', async () => {
-        const seen = new Set();
-        const made4 = runOf([4, 4], always);
-        const found = await Cnum.tryToBreak({ processes: 2 }, async schedule => {
-            const made = made4(schedule);
-            seen.add(made.events.map(it => it.process).join(''));
-            return made;
-        }, () => {});
-        assert.deepEqual([found.count, seen.size, found.broken], [70, 70, null]); // 8 over 4
-        assert.equal(found.worst.events.map(it => it.process).join(''), '01010101');
-    });
-
-    it('tries those of processes with different numbers of steps', async () => {
-        assert.equal((await tried([2, 4], always)).count, 15); // 6 over 2
-    });
-
-    it('tries those of three processes up to a bound', async () => {
-        // 3 ** 5 first steps but one, in which a process of 4 steps would take 5. In 10 of them it has decided.
-        assert.equal((await tried([4, 8, 8], always)).count, 10 * 2 + 232 * 6);
-    });
-
-    // How many words there are of so many acts of processes that take so many steps in a life, with at most so many crashes; the
-    // processes that have not decided then go on in any order.
-    function words(counts, acts, crashes, taken = counts.map(() => 0)) {
-        const going = counts.map((_, process) => process).filter(it => taken[it] < counts[it]);
-        if (!acts) return [1, 1, 2, 6][going.length];
-        const having = (process, steps) => taken.map((it, index) => (index === process ? steps : it));
-        const stepped = going.map(it => words(counts, acts - 1, crashes, having(it, taken[it] + 1)));
-        const begun = counts.map((_, process) => process).filter(it => crashes && taken[it]);
-        return [...stepped, ...begun.map(it => words(counts, acts - 1, crashes - 1, having(it, 0)))].reduce((sum, it) => sum + it, 0);
+    // How many configurations there are of so many steps of each process: the first one, and for each number of steps of each
+    // process one for each that can have been first: it has begun or, with crashes, may be any.
+    function configurations(steps, comeBack) {
+        const places = steps.reduce((all, most) => all.flatMap(it => Array.from({ length: most + 1 }, (_, step) => [...it, step])), [[]]);
+        const firsts = taken => (comeBack ? taken : taken.filter(it => it > 0)).length;
+        return 1 + places.map(firsts).reduce((sum, it) => sum + it, 0);
     }
 
-    it('tries schedules of processes that come back up to a bound', async () => {
-        assert.equal(words([4, 4], 8, 0), 70);
-        assert.equal((await tried([5, 6], always, { comeBack: true })).count, words([5, 6], 7, 2));
-        assert.equal((await tried([2, 3, 5], always, { comeBack: true })).count, words([2, 3, 5], 4, 1));
+    it('comes to each configuration of two processes', async () => {
+        assert.equal(configurations([4, 4]), 41);
+        const found = await tried([4, 4], first);
+        assert.deepEqual([found.configurations, found.broken], [41, null]);
+        assert.equal(found.worst.events.map(it => it.process).join(''), '01010101');
+        assert.equal((await tried([2, 4], first)).configurations, 23);
+    });
+
+    it('comes to each configuration of three processes', async () => {
+        assert.equal((await tried([4, 8, 8], first)).configurations, configurations([4, 8, 8]));
+    });
+
+    it('tries all in fewer runs than there are configurations, and shows a run with many turns last', async () => {
+        const { count, configurations, worst } = await tried([3, 3, 3], first);
+        assert.ok(count < configurations, `${count} runs of ${configurations} configurations`);
+        assert.equal(worst.events.map(it => it.process).join(''), '012012012');
+    });
+
+    it('comes to each configuration of processes that come back', async () => {
+        assert.equal((await tried([2, 3], first, { comeBack: true })).configurations, 25);
+        assert.equal((await tried([2, 3, 5], first, { comeBack: true })).configurations, configurations([2, 3, 5], true));
     });
 
     it('lets processes crash at random', async () => {
-        const { count, worst, broken } = await tried([9, 9, 18, 18], always, { comeBack: true });
-        assert.deepEqual([count, broken], [500, null]);
+        const { count, configurations, worst, broken } = await tried([9, 9, 18, 18], first, { comeBack: true });
+        assert.deepEqual([count, configurations, broken], [500, null, null]);
         assert.ok(worst.events.filter(it => it.kind === 'crashes').length > 1);
-        assert.ok((await tried([9, 9, 18, 18], always)).worst.events.every(it => it.kind !== 'crashes'));
+        assert.ok((await tried([9, 9, 18, 18], first)).worst.events.every(it => it.kind !== 'crashes'));
     });
 
     // Two processes at a test-and-set bit: each writes, applies, and decides its own value if it was first.
@@ -285,28 +412,29 @@ describe('an adversary', () => {
             taken[process] = does === run.CRASH ? 0 : taken[process] + 1;
             if (taken[process] === 2) [won[process], isSet] = [!isSet, true];
             const kind = does === run.CRASH ? 'crashes' : taken[process] === 3 ? 'decides' : 'writes';
-            return [{ process, does, kind, value: String(won[process] ? process : 1 - process) }];
+            return [{ process, does, kind, node: 0, team: 'A', value: String(won[process] ? process : 1 - process) }];
         });
         return { events, inputs: ['0', '1'] };
     }
 
     it('finds the crash that breaks the agreement by a test-and-set bit', async () => {
         const by = async plan => (await Cnum.tryToBreak(plan, async it => atBit(it), () => {})).broken;
-        assert.equal(await by({ processes: 2 }), null);
-        const { events } = await by({ processes: 2, comeBack: true });
+        assert.equal(await by(planOf([3, 3])), null);
+        const { events } = await by(planOf([3, 3], { comeBack: true }));
         assert.deepEqual(events.filter(it => it.kind === 'crashes').length, 1);
         assert.equal(new Set(events.filter(it => it.kind === 'decides').map(it => it.value)).size, 2);
     });
 
-    it('tries more processes at random', async () => assert.equal((await tried([4, 8, 12, 12], always)).count, 500));
+    it('tries more processes at random', async () => assert.equal((await tried([4, 8, 12, 12], first)).count, 500));
 
     it('finds a schedule in which the processes do not agree', async () => {
-        const first = events => String(events[0].process);
-        assert.equal((await tried([4, 4], first)).broken, null);
-        const split = (events, process) => (events[2].process === 1 ? String(process) : '0');
-        assert.equal((await tried([4, 4], split)).broken.events[2].process, 1);
+        const split = (events, process) => (events.length > 2 && events[2].process === 1 ? String(process) : first(events));
+        assert.ok((await tried([4, 4], split)).broken.events.some(it => it.kind === 'decides'));
         assert.ok((await tried([4, 4], () => '7')).broken, 'a value that nobody proposed');
-        assert.ok((await tried([4, 5], always)).broken, 'a process that takes too many steps');
+        assert.ok((await tried([4, 4], () => '0')).broken, 'the value of a process that does not take part');
+        const counted = steps => Cnum.tryToBreak(planOf([4, 4]), async it => runOf(steps, first)(it), () => {});
+        assert.ok((await counted([4, 5])).broken, 'a process that takes too many steps');
+        assert.equal((await counted([4, 4])).broken, null);
     });
 });
 

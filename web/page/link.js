@@ -65,6 +65,7 @@ var Cnum = globalThis.Cnum || {};
         },
         crashes: value => (value === 'yes' ? { comeBack: true } : refuse('link_crashes', { value })),
         reads: value => (value === 'no' ? { reads: false } : refuse('link_reads', { value })),
+        plan: plan => (['shortest', 'certificate'].includes(plan) ? { plan } : refuse('link_plan', { plan })),
         lang: lang => (lang in Cnum.languages ? { lang } : refuse('link_language', { lang })),
         view: view => (VIEWS.includes(view) ? { view } : refuse('link_view', { view })),
     };
@@ -73,13 +74,14 @@ var Cnum = globalThis.Cnum || {};
     Cnum.isInput = text => /^\d{1,20}$/.test(text) && BigInt(text) <= MOST_INPUT;
 
     // The part of the address for what the page shows: the path of an example or a text, the limit if there is one,
-    // whether processes crash and come back, whether objects can be read, the inputs and the acts, the part that is shown
-    // alone, and the language.
-    Cnum.linkOf = async function ({ example, text, limit, comeBack, reads = true, inputs, acts, view, lang }) {
+    // whether processes crash and come back, whether objects can be read, the plan if it is not the shortest or if there is a
+    // run, the inputs and the acts, the part that is shown alone, and the language.
+    Cnum.linkOf = async function ({ example, text, limit, comeBack, reads = true, plan, inputs, acts, view, lang }) {
         const parts = [example ? `example=${example}` : `table=${await packed(text)}`];
         if (limit) parts.push(`limit=${limit}`);
         if (comeBack) parts.push('crashes=yes');
         if (!reads) parts.push('reads=no');
+        if (plan && !comeBack && (plan !== 'shortest' || acts.length)) parts.push(`plan=${plan}`);
         if (acts.length) parts.push(`inputs=${inputs.join(',')}`, `run=${acts.map(wordOf).join(',')}`);
         if (view) parts.push(`view=${view}`);
         if (lang && lang !== Cnum.FIRST_LANGUAGE) parts.push(`lang=${lang}`);

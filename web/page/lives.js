@@ -5,6 +5,10 @@ var Cnum = globalThis.Cnum || {};
     'use strict';
 
     const { UNDECIDED } = Cnum.run;
+    const STEPS = 6; // of a process at a node, in one life
+
+    // The most steps that one of so many processes takes in one life.
+    const mostSteps = processes => STEPS * (processes - 1);
 
     // The places of a process, by the steps that it takes alone: at each it writes, and then does its operation.
     function pathOf(steps) {
@@ -12,17 +16,10 @@ var Cnum = globalThis.Cnum || {};
         return of('write').map(({ node, team }, place) => ({ node, team, operation: of('apply')[place].operation }));
     }
 
-    // The plan of processes that come back, in the form of `show --as json`, by the steps that each process takes alone, from
-    // the first one to its decision.
+    // The plan of processes that come back, by the steps that each process takes alone, from the first one to its decision.
     function planOf(runs) {
-        const roles = [];
-        const roleOf = ({ operation, team }) => {
-            const found = roles.findIndex(it => it.operation === operation && it.team === team);
-            return found >= 0 ? found : roles.push({ operation, team }) - 1;
-        };
-        const paths = runs.map(steps => pathOf(steps).map(it => ({ node: it.node, team: it.team, role: roleOf(it) })));
         const start = runs[0].find(it => it.action === 'read').state;
-        return { comeBack: true, nodes: runs.length - 1, paths, processes: runs.length, roles, start };
+        return Cnum.plans.chainOf({ comeBack: true, stepsOfNode: STEPS, start, count: runs.length - 1, paths: runs.map(pathOf) });
     }
 
     // What a process remembers at a place of its path: the value that it brings there, and no step yet.
@@ -54,5 +51,5 @@ var Cnum = globalThis.Cnum || {};
         return crash ? crash.forgot : null;
     }
 
-    Cnum.lives = { planOf, memoryAfter, withForgotten, forgottenBy };
+    Cnum.lives = { mostSteps, planOf, memoryAfter, withForgotten, forgottenBy };
 })();

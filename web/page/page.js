@@ -11,6 +11,7 @@ var Cnum = globalThis.Cnum || {};
     const FIRST_EXAMPLE = 'types/test_and_set';
     const PROVED = /^(.*?), proved (by .*)\n$/;
     const CERTIFICATE = 'certificate';
+    const SHORTEST = 'shortest';
     const WITHOUT_READS = '--without-read';
     const MOST_PROCESSES = 8; // of a protocol
 
@@ -31,6 +32,7 @@ var Cnum = globalThis.Cnum || {};
             this.certificate = '';
             this.limit = null; // what was chosen for the processes of the protocol, if fewer than the most
             this.comeBack = false; // whether the processes of the protocol crash and come back
+            this.isShortest = true; // whether the protocol is the shortest one, and not that of the certificate
             this.reads = true; // whether reasons, comparisons and links are for objects that can be read
             this.numbers = new Cnum.TwoNumbers({ choose: reads => this.chooseReads(reads), openWhy: reads => this.openReasons(reads) });
             this.editor = new Cnum.Editor(at('table'), at('marks'), at('flaws'));
@@ -67,7 +69,7 @@ var Cnum = globalThis.Cnum || {};
                 tryOut: words => this.agree(this.adversary, words),
                 breakOff: () => this.adversary.breakOff(),
                 next: () => Cnum.run.movesOf(this.table),
-                picture: () => Cnum.pictureOf(this.graph, this.picture.plan),
+                picture: plan => Cnum.pictureOf(this.graph, plan),
                 mainPicture: () => this.mainPicture(),
                 changed: () => this.address.keepSoon(),
                 say: text => (at('step-said').textContent = text),
@@ -95,14 +97,17 @@ var Cnum = globalThis.Cnum || {};
                 typed = setTimeout(() => this.refresh(), AFTER_TYPING);
             });
             at('own').addEventListener('click', () => this.edit(Cnum.FIRST_TABLE));
-            at('limit').addEventListener('change', () => {
+            at('limit').addEventListener('change', async () => {
                 this.limit = at('limit').value === String(this.most) ? null : Number(at('limit').value);
-                this.refresh();
+                await this.refresh();
+                // The field was away in the meantime, and lost the focus.
+                if (document.activeElement === document.body) at('limit').focus();
             });
             at('come-back').addEventListener('change', () => {
                 this.comeBack = at('come-back').checked;
                 this.refresh();
             });
+            at('plan').addEventListener('change', () => this.choosePlan(at('plan').value === SHORTEST));
             this.listenToUndo();
             at('break-off').addEventListener('click', () => this.breakOff());
             at('break-off-without').addEventListener('click', () => this.breakOffUnread());
@@ -265,10 +270,12 @@ var Cnum = globalThis.Cnum || {};
         }
 
         // Shows what a link says. If it has no limit, there are as many processes as it has inputs. Those that come back may
-        // be fewer than those of why.
+        // be fewer than those of why. A run with no plan is of the certificate: older pages made such links.
         async showLinked(linked) {
             this.comeBack = at('come-back').checked = Boolean(linked.comeBack);
             this.reads = linked.reads !== false;
+            this.isShortest = linked.plan ? linked.plan === SHORTEST : linked.comeBack || !linked.acts.length;
+            at('plan').value = this.isShortest ? SHORTEST : CERTIFICATE;
             this.limit = linked.limit || (linked.inputs.length > 1 && !linked.comeBack ? linked.inputs.length : null);
             this.text = linked.text === undefined ? examples.get(linked.example || FIRST_EXAMPLE).text : linked.text;
             await this.refresh(linked);
@@ -279,7 +286,8 @@ var Cnum = globalThis.Cnum || {};
             const example = this.example();
             const { inputs } = this.protocol;
             const { text, limit, comeBack, reads } = this;
-            return { example: example && example.path, text, limit, comeBack, reads, inputs, acts: this.protocol.actsSoFar() };
+            const plan = this.isShortest ? SHORTEST : CERTIFICATE;
+            return { example: example && example.path, text, limit, comeBack, reads, plan, inputs, acts: this.protocol.actsSoFar() };
         }
 
         // Ends what runs, so that nothing is shown any more.
@@ -335,7 +343,8 @@ var Cnum = globalThis.Cnum || {};
             this.picture.clear();
             at('claim-said').textContent = '';
             at('claim-file').value = '';
-            at('recoverable').textContent = at('come-back-said').textContent = '';
+            at('recoverable').textContent = at('come-back-said').textContent = at('plan-said').textContent = '';
+            at('plan-part').hidden = true;
             at('limit-said').textContent = '';
             at('limit-part').hidden = true;
             at('legend').hidden = true;
@@ -492,34 +501,49 @@ var Cnum = globalThis.Cnum || {};
         }
 
         // The certificate for the chosen processes, if they are fewer than those of this one.
-        findChosen(most) {
-            this.most = JSON.parse(most.stdout).number || 1;
-            if (this.limit >= this.most) this.limit = null;
+        findChosen(whole) {
+            this.certified = JSON.parse(whole.stdout).number || 1;
             this.offerLimits();
-            return this.limit ? this.found(['find', '--limit', String(this.limit)]) : most;
+            return this.certifies() ? this.found(['find', '--limit', String(this.limit)]) : whole;
+        }
+
+        // Whether the certificate is for the processes that were chosen, and not for as many as it can.
+        certifies() {
+            return Boolean(this.limit) && this.limit < this.certified;
+        }
+
+        // The most processes that can be chosen. The shortest plan may be for more than the certificate.
+        mostToChoose() {
+            const isOfCertificate = this.comeBack || !this.isShortest || this.certified === 1;
+            return isOfCertificate ? this.certified : Math.min(MOST_PROCESSES, Cnum.leastOf(this.numbers.of(true)));
         }
 
         // Says for how many processes why and the protocol are, and lets one choose fewer. Those that come back may be others.
         offerLimits() {
+            this.most = this.mostToChoose();
+            if (this.limit >= this.most) this.limit = null;
             const { most, limit } = this;
             const options = Array.from({ length: most - 1 }, (_, index) => element('option', {}, String(index + 2)));
             at('limit').replaceChildren(...options);
             at('limit').value = limit || most;
             at('limit-part').hidden = most < 3;
-            const key = limit ? 'evidence_chosen' : most < Cnum.mostOf(this.numbers.of(true)) ? 'evidence_most' : 'evidence_whole';
-            const parts = this.partsOfEvidence();
-            at('limit-said').textContent = most === 1 || !parts ? '' : say(key, { parts: say(parts), count: limit || most, most });
+            at('limit-said').textContent = most > 1 ? this.sizesInWords() : '';
         }
 
-        // Which parts of the page are by the certificate.
-        partsOfEvidence() {
-            if (this.comeBack) return this.reads ? 'evidence_why' : '';
-            return this.reads ? 'evidence_parts' : 'evidence_protocol';
+        // For how many processes the parts of the page are.
+        sizesInWords() {
+            const { most, limit, certified, comeBack, reads } = this;
+            const count = limit || most;
+            if (comeBack && !reads) return '';
+            if (reads && count > certified) return say('evidence_apart', { count, certified });
+            const parts = comeBack ? 'evidence_why' : reads ? 'evidence_parts' : 'evidence_protocol';
+            const key = limit ? 'evidence_chosen' : most < Cnum.mostOf(this.numbers.of(true)) ? 'evidence_most' : 'evidence_whole';
+            return say(key, { parts: say(parts), count, most });
         }
 
         // The words that ask why the number is what it is, as far as was chosen.
         whyWords(...words) {
-            const limit = this.limit ? ['--limit', String(this.limit)] : [];
+            const limit = this.certifies() ? ['--limit', String(this.limit)] : [];
             return ['why', ...limit, ...words, '-'];
         }
 
@@ -531,29 +555,62 @@ var Cnum = globalThis.Cnum || {};
             this.protocol.clear(why);
         }
 
-        // The protocol is that of the certificate for the number alone, which has the same witness and no
-        // collisions. Each step checks the certificate anew, and so takes no longer if there are many
-        // collisions.
+        // The protocol for as many processes as were chosen: the shortest, or that of the certificate's witness.
         async showProtocol(linked) {
-            const { number } = JSON.parse(this.certificate);
+            const { number, witness } = JSON.parse(this.certificate);
             if (number === null) {
                 if (!this.address.fits(linked, 1)) return;
                 this.draw(null);
                 this.protocol.clear(say('nobody'));
                 return;
             }
-            const find = await this.ask(this.search, ['find', '--limit', String(number)]);
-            if (!find) return;
-            const witness = { [CERTIFICATE]: find.stdout };
-            this.agreement = { words: ['agree', '--steps', '--as', 'json', CERTIFICATE], files: witness, table: this.table };
-            const show = await this.ask(this.search, ['show', '--as', 'json', CERTIFICATE], witness);
-            if (!show) return;
-            await this.showPlan(JSON.parse(show.stdout), linked);
+            const { isShortest } = this;
+            const made = await (isShortest ? this.shortestPlan(this.limit || this.most) : this.planOfWitness(number));
+            if (!made || isShortest !== this.isShortest) return;
+            this.agreement = made.agreement;
+            this.tellPlan(made.plan);
+            await this.showPlan(made.plan, linked, Cnum.plans.ofWitness(witness, this.table));
         }
 
-        async showPlan(plan, linked) {
+        // Takes the choice of a plan. Nothing else changes, so that the reader stays at the same place.
+        async choosePlan(isShortest) {
+            this.isShortest = isShortest;
+            this.offerLimits();
+            await this.showProtocol({ inputs: [], acts: [] });
+        }
+
+        // Says how long a plan is, of what it is the shortest, and whether it is for objects that can be read only.
+        tellPlan({ most, nodes, reads }) {
+            at('plan-part').hidden = false;
+            const size = say(nodes.length === 1 ? 'plan_of_one' : 'plan_size', { most, objects: nodes.length });
+            at('plan-said').replaceChildren(size, ...(this.isShortest ? [' ', ...Cnum.marked('plan_least')] : []));
+            Cnum.explainWords(at('plan-said'));
+            at('protocol-of').textContent = say(reads ? 'protocol_reads' : 'protocol_without_reads');
+        }
+
+        // The shortest plan for so many processes, with what runs it; or null.
+        async shortestPlan(number) {
+            const ofNumber = ['--shortest', '--processes', String(number)];
+            const show = await this.found(['show', ...ofNumber, '--as', 'json', '-']);
+            const agreement = { words: ['agree', ...ofNumber, '--steps', '--as', 'json', '-'], files: {}, table: this.table };
+            return show && { plan: Cnum.plans.ofTree(JSON.parse(show.stdout)), agreement };
+        }
+
+        // The plan of the certificate for this number alone, with what runs it; or null. That certificate has the same witness and
+        // no collisions. Each step checks it anew, and so takes no longer if there are many collisions.
+        async planOfWitness(number) {
+            const find = await this.ask(this.search, ['find', '--limit', String(number)]);
+            if (!find) return null;
+            const files = { [CERTIFICATE]: find.stdout };
+            const show = await this.ask(this.search, ['show', '--as', 'json', CERTIFICATE], files);
+            const agreement = { words: ['agree', '--steps', '--as', 'json', CERTIFICATE], files, table: this.table };
+            return show && { plan: Cnum.plans.ofCertificate(JSON.parse(show.stdout)), agreement };
+        }
+
+        // Shows a plan, and in the picture of the states the start and the teams of this witness.
+        async showPlan(plan, linked, witness) {
             if (!this.address.fits(linked, plan.processes)) return;
-            this.draw(plan);
+            this.draw(witness);
             await this.protocol.show(plan, linked.inputs, linked.acts);
         }
 
@@ -578,15 +635,19 @@ var Cnum = globalThis.Cnum || {};
             const words = ['agree', '--recoverable', '--processes', String(processes), '--steps', '--as', 'json', '-'];
             this.agreement = { words, files: {}, table: this.table };
             const runs = await this.runsAlone(processes);
-            if (runs) await this.showPlan(Cnum.lives.planOf(runs), linked);
+            if (!runs) return;
+            const plan = Cnum.lives.planOf(runs);
+            at('protocol-of').textContent = say('protocol_reads');
+            await this.showPlan(plan, linked, plan.nodes[0]);
         }
 
         // The steps of each process alone. If they do not come, the answer is null.
         async runsAlone(processes) {
-            const { mostSteps, scheduleOf, stepOf } = Cnum.run;
+            const { scheduleOf, stepOf } = Cnum.run;
+            const most = Cnum.lives.mostSteps(processes);
             const runs = [];
             for (let process = 0; process < processes; process++) {
-                const acts = Array(mostSteps({ processes, comeBack: true })).fill(stepOf(process));
+                const acts = Array(most).fill(stepOf(process));
                 const words = [...this.agreement.words, Cnum.firstInputs(processes).join(','), scheduleOf(acts)];
                 const answer = await this.timed(this.ask(this.search, words));
                 if (answer && answer.status !== 0) this.refuseLives(Cnum.inWords(answer));
@@ -596,22 +657,22 @@ var Cnum = globalThis.Cnum || {};
             return runs;
         }
 
-        // The picture, with the start and the teams of this plan of the protocol, if there is one.
-        draw(plan) {
+        // The picture, with the start and the teams of this witness, if there is one.
+        draw(witness) {
             clearTimeout(this.early);
-            this.plan = plan;
+            this.witness = witness;
             this.redraw();
         }
 
         // The same for the number that is chosen: without reads, with those of its witness.
         redraw() {
-            const plan = this.reads ? this.plan : this.unreadPlan();
-            this.picture.show(this.graph, plan);
-            at('legend').hidden = !plan;
+            const witness = this.reads ? this.witness : this.unreadWitness();
+            this.picture.show(this.graph, witness);
+            at('legend').hidden = !witness;
             at('picture-svg').disabled = at('picture-png').disabled = false;
         }
 
-        unreadPlan() {
+        unreadWitness() {
             const { witness } = this.reasons.get(false) || {};
             return witness ? { start: witness.start, roles: witness.processes } : null;
         }

@@ -22,7 +22,7 @@ var Cnum = globalThis.Cnum || {};
 
     // The teams that do the operation of a line, by the roles of the witness.
     function teamsOf({ operation }, roles) {
-        return ['A', 'B'].filter(team => roles.some(it => it.team === team && it.operation === operation));
+        return Cnum.plans.NAMES.filter(team => roles.some(it => it.team === team && it.operation === operation));
     }
 
     function badge(team, x, y) {

@@ -88,7 +88,7 @@ var Cnum = globalThis.Cnum || {};
         // Lets each process that goes on take a step in turn, until all have decided.
         runAll() {
             const round = this.activeProcesses().map(run.stepOf);
-            return this.set([...this.actsSoFar(), ...Array(run.mostSteps(this.plan)).fill(round).flat()]);
+            return this.set([...this.actsSoFar(), ...Array(this.plan.most).fill(round).flat()]);
         }
 
         // Lets processes take steps at random. Some stop on the way, and some crash, if they may. Those that go on decide
@@ -96,20 +96,20 @@ var Cnum = globalThis.Cnum || {};
         runRandomly() {
             let going = this.processesThatMayAct();
             const acts = [];
-            for (let count = 2 * this.plan.processes * run.mostSteps(this.plan); count > 0 && going.length; count--) {
+            for (let count = 2 * this.plan.processes * this.plan.most; count > 0 && going.length; count--) {
                 const process = going[Math.floor(Math.random() * going.length)];
                 const does = this.randomAct(going.length > 1);
                 acts.push({ process, does });
                 if (does === run.STOP) going = going.filter(it => it !== process);
             }
-            const rest = going.flatMap(process => Array(run.mostSteps(this.plan)).fill(run.stepOf(process)));
+            const rest = going.flatMap(process => Array(this.plan.most).fill(run.stepOf(process)));
             return this.set([...this.actsSoFar(), ...acts, ...rest]);
         }
 
         // A process that may crash does so about twice in such a run, so that it also gets far.
         randomAct(mayStop) {
             if (mayStop && Math.random() < STOPS) return run.STOP;
-            return this.plan.comeBack && Math.random() < 1 / run.mostSteps(this.plan) ? run.CRASH : run.STEP;
+            return this.plan.comeBack && Math.random() < 1 / this.plan.most ? run.CRASH : run.STEP;
         }
 
         // What the program says of a run: its events. It is asked only once for each.
@@ -159,12 +159,16 @@ var Cnum = globalThis.Cnum || {};
         async tryToBreak() {
             const turn = ++this.turn;
             const { inputs, plan } = this;
-            this.view.showTrial(say('trial_runs', { count: 0 }), true);
+            const tell = count => {
+                this.tried = count;
+                this.view.showTrial(say('trial_runs', { count }), true);
+            };
+            tell(0);
             const tryOne = async schedule => {
                 const told = await this.ask(this.page.tryOut, schedule);
                 return told && !told.fault && turn === this.turn ? { events: told.events, inputs } : null;
             };
-            const found = await Cnum.tryToBreak(plan, tryOne, count => this.view.showTrial(say('trial_runs', { count }), true));
+            const found = await Cnum.tryToBreak(plan, tryOne, tell);
             if (turn !== this.turn) return;
             const hardest = found.broken || found.worst;
             await this.set(actsOf(hardest.events));
@@ -176,21 +180,24 @@ var Cnum = globalThis.Cnum || {};
             this.turn++;
         }
 
-        // Ends a trial. What was found so far is forgotten.
+        // Ends a trial, and says how many schedules were tried. None of them broke the protocol, or it would have ended.
         endTrial() {
             this.turn++;
             this.page.breakOff();
-            this.view.showTrial(say('trial_broken_off'), false);
+            this.view.showTrial(say('trial_broken_off', { count: this.tried }), false);
         }
     }
 
     const actsOf = events => events.map(({ process, does }) => ({ process, does }));
 
-    function trialText({ count, bound, broken }, { processes, comeBack }) {
+    const TEXTS = { all: 'trial_all', random: 'trial_random', shown: 'trial_shown' };
+    const TEXTS_OF_LIVES = { all: 'trial_lives_all', random: 'trial_lives_random', shown: 'trial_lives_shown' };
+
+    function trialText({ count, configurations, broken }, { comeBack }) {
         if (broken) return say('trial_broken', { count });
-        if (comeBack) return `${say(bound ? 'trial_lives_bound' : 'trial_lives_random', { count, ...bound })} ${say('trial_lives_shown')}`;
-        const key = !bound ? 'trial_random' : processes === 2 ? 'trial_all' : 'trial_bound';
-        return `${say(key, { count, bound: bound && bound.acts })} ${say('trial_shown')}`;
+        const texts = comeBack ? TEXTS_OF_LIVES : TEXTS;
+        const tried = configurations ? say(texts.all, { count: configurations }) : say(texts.random, { count });
+        return `${tried} ${say(texts.shown)}`;
     }
 
     // What processes propose if nobody says otherwise.

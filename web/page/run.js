@@ -5,6 +5,7 @@ var Cnum = globalThis.Cnum || {};
 (() => {
     'use strict';
 
+    const { teamName } = Cnum.plans;
     const UNDECIDED = null;
     const STEP = 'step';
     const STOP = 'stop';
@@ -15,15 +16,15 @@ var Cnum = globalThis.Cnum || {};
     // The kind of a step. A process that comes back may read the start state before its operation, which tells no team, and
     // find nothing in a register.
     function kindOf({ action, judged, value }) {
-        if (judged === null) return 'looks';
+        if (action === 'read' && judged === null) return 'looks';
         return action === 'take' && value === null ? 'misses' : KINDS[action];
     }
 
-    // A step as an event. The values of processes are texts, and the team of a read is the one that it judges to have
-    // come first.
-    function eventOf({ action, process, judged, value = null, ...rest }) {
+    // A step as an event. The values of processes are texts. The team of a read is the one that it judges to have come
+    // first; so is that of an operation whose response alone tells.
+    function eventOf({ action, process, judged = null, value = null, team = judged, ...rest }) {
         const kind = kindOf({ action, judged, value });
-        return { kind, ...rest, ...(judged && { team: judged }), ...(value !== null && { value: String(value) }) };
+        return { kind, ...rest, ...(team !== null && { team: teamName(team) }), ...(value !== null && { value: String(value) }) };
     }
 
     // The acts without those of a process that has stopped before.
@@ -59,7 +60,7 @@ var Cnum = globalThis.Cnum || {};
     // Each event of an operation with the state of the object before and after it. `next` gives the state
     // after an operation in a state.
     function withStates(events, plan, next) {
-        const states = Array(plan.nodes).fill(plan.start);
+        const states = plan.nodes.map(it => it.start);
         return events.map(event => {
             if (event.kind !== 'applies') return event;
             const before = states[event.node];
@@ -72,7 +73,7 @@ var Cnum = globalThis.Cnum || {};
     // registers; of each process its steps and its decision since it last crashed, its crashes, and whether it has
     // stopped.
     function after(events, plan) {
-        const nodes = Array.from({ length: plan.nodes }, () => ({ state: plan.start, last: null, A: '', B: '' }));
+        const nodes = plan.nodes.map(it => ({ state: it.start, last: null, registers: {} }));
         const processes = Array.from({ length: plan.processes }, () => ({ steps: 0, decision: UNDECIDED, crashes: 0, hasStopped: false }));
         for (const event of events) {
             const process = processes[event.process];
@@ -80,7 +81,7 @@ var Cnum = globalThis.Cnum || {};
             if (event.kind === 'stops') process.hasStopped = true;
             if (event.kind === 'crashes') Object.assign(process, { steps: 0, decision: UNDECIDED, crashes: process.crashes + 1 });
             if (event.kind === 'decides') process.decision = event.value;
-            if (event.kind === 'writes') nodes[event.node][event.team] = event.value;
+            if (event.kind === 'writes') nodes[event.node].registers[event.team] = event.value;
             if (event.kind === 'applies') Object.assign(nodes[event.node], { state: event.after, last: event });
         }
         return { nodes, processes };
@@ -92,9 +93,6 @@ var Cnum = globalThis.Cnum || {};
         return processes.map((_, process) => process).filter(it => goesOn(processes[it]));
     }
 
-    // The most steps that a process takes without a crash before it has decided.
-    const mostSteps = ({ processes, comeBack }) => (comeBack ? 6 : 4) * (processes - 1);
-
     // The function that gives the state after an operation in a state, by the text of a table.
     function movesOf(text) {
         const table = new Cnum.TableText(text);
@@ -105,5 +103,5 @@ var Cnum = globalThis.Cnum || {};
 
     const stepOf = process => ({ process, does: STEP });
 
-    Cnum.run = { UNDECIDED, STEP, STOP, CRASH, stepOf, withoutStopped, scheduleOf, eventsOf, withStates, after, active, mostSteps, movesOf };
+    Cnum.run = { UNDECIDED, STEP, STOP, CRASH, stepOf, withoutStopped, scheduleOf, eventsOf, withStates, after, active, movesOf };
 })();

@@ -21,6 +21,11 @@ var Cnum = globalThis.Cnum || {};
         return last ? say('memory_step', { node, value, step: Cnum.shortText(last) }) : say('memory_place', { node, value });
     }
 
+    // The names of all teams that meet at some node.
+    function teamsOf({ nodes }) {
+        return Cnum.plans.NAMES.slice(0, Math.max(...nodes.map(it => it.teams.length)));
+    }
+
     class RunView {
         // Shows the run of this protocol in this place.
         constructor(place, protocol) {
@@ -73,15 +78,16 @@ var Cnum = globalThis.Cnum || {};
         }
 
         figures() {
-            this.states = this.protocol.page.picture();
-            const states = wide(say('states_of_run'), this.states);
+            this.pictures = new Map(); // of the states, by the nodes
+            this.states = wide(say('states_of_run'), '');
             const kept = this.plan.comeBack ? [element('p', { class: 'quiet' }, say('objects_stay'))] : [];
-            const objects = element('div', {}, element('h3', {}, ...Cnum.marked('nodes')), this.nodes, ...kept, this.object, states);
+            const size = { style: `flex-basis: ${24 + 6 * teamsOf(this.plan).length}em` }; // with a column for each team
+            const objects = element('div', size, element('h3', {}, ...Cnum.marked('nodes')), this.nodes, ...kept, this.object, this.states);
             return [
                 element('h3', {}, say('diagram')),
                 this.diagram,
                 this.savings('run', () => this.diagram.firstElementChild),
-                element('div', { class: 'figures' }, objects, ...(this.plan.nodes > 1 ? [this.tournament()] : [])),
+                element('div', { class: 'figures' }, ...(this.plan.processes > 2 ? [this.tournament()] : []), objects),
             ];
         }
 
@@ -89,7 +95,8 @@ var Cnum = globalThis.Cnum || {};
             const picture = Cnum.tournamentOf(this.plan);
             this.meetings = picture;
             const head = element('h3', {}, say('tournament'));
-            return element('div', {}, head, wide(say('tournament'), picture), this.savings('tournament', () => picture));
+            const size = { style: `flex-basis: ${picture.getAttribute('width')}px` };
+            return element('div', size, head, wide(say('tournament'), picture), this.savings('tournament', () => picture));
         }
 
         // The buttons that save a picture of this part.
@@ -104,9 +111,9 @@ var Cnum = globalThis.Cnum || {};
             const step = buttonOf(run.STEP, say('step'), say('step_of', { process }));
             const stop = buttonOf(run.STOP, say('stop'), say('stop_of', { process }));
             const crash = buttonOf(run.CRASH, say('crash'), say('crash_of', { process }));
-            const places = path.map(({ node, team, role }) => {
+            const places = path.map(({ node, team, operation }) => {
                 const mark = element('span', { class: `team-${team}` }, say('team', { team }));
-                return element('li', {}, say('node_of_path', { node }), mark, `, ${this.plan.roles[role].operation}`);
+                return element('li', {}, say('node_of_path', { node }), mark, `, ${operation}`);
             });
             const decision = element('p', { class: 'decision' });
             const memory = element('p', { class: 'memory' });
@@ -149,7 +156,7 @@ var Cnum = globalThis.Cnum || {};
         listen() {
             const section = this.place.closest('section');
             section.onkeydown = event => {
-                if (event.ctrlKey || event.altKey || event.metaKey || event.target.matches('input:not([type=range], [type=checkbox])')) return;
+                if (event.ctrlKey || event.altKey || event.metaKey || event.target.matches('select, input:not([type=range], [type=checkbox])')) return;
                 const { isBehindC } = this;
                 this.isBehindC = event.code === 'KeyC' && Boolean(this.protocol.plan && this.plan.comeBack);
                 const digit = /^(?:Digit|Numpad)([0-7])$/.exec(event.code);
@@ -179,7 +186,7 @@ var Cnum = globalThis.Cnum || {};
             this.slider.max = whole;
             this.slider.value = events.length;
             this.count.textContent = say('run_count', { count: events.length, whole });
-            this.columns.forEach((column, process) => this.showColumn(column, now.processes[process]));
+            this.columns.forEach((column, process) => this.showColumn(column, now.processes[process], this.plan.steps[process]));
             if (this.plan.comeBack) this.showMemories(events);
             this.showLog(events);
             this.showDiagram(events);
@@ -189,7 +196,7 @@ var Cnum = globalThis.Cnum || {};
 
         // A button that had the focus and cannot be pressed any more hands it to the section, so that the keys
         // still work.
-        showColumn({ step, stop, crash, decision, whole }, { steps, decision: value, crashes, hasStopped }) {
+        showColumn({ step, stop, crash, decision, whole }, { steps, decision: value, crashes, hasStopped }, most) {
             const hasDecided = value !== run.UNDECIDED;
             const focused = [step, stop, crash].find(it => it === document.activeElement);
             step.disabled = stop.disabled = hasStopped || hasDecided;
@@ -197,7 +204,7 @@ var Cnum = globalThis.Cnum || {};
             if (focused && focused.disabled) this.slider.focus();
             whole.classList.toggle('stopped', hasStopped);
             whole.classList.toggle('decided', hasDecided);
-            const count = say(steps === 1 ? 'one_step' : 'steps', { steps });
+            const count = say(this.plan.comeBack ? 'steps_at_most' : 'steps', { steps, most });
             const parts = [count, hasDecided ? say('decides', { value }) : say('undecided'), ...(hasStopped ? [say('stopped')] : [])];
             if (crashes) parts.push(say(crashes === 1 ? 'one_crash' : 'crashes', { crashes }));
             decision.textContent = parts.join(', ');
@@ -216,7 +223,7 @@ var Cnum = globalThis.Cnum || {};
         }
 
         showLog(events) {
-            const lineOf = it => say(`log_${it.kind}`, it);
+            const lineOf = it => say(it.kind === 'applies' && it.team ? 'log_tells' : `log_${it.kind}`, it);
             const changes = it => [changeOf(it, this.plan)].filter(Boolean).map(text => element('span', { class: 'change' }, text));
             this.log.replaceChildren(...events.map(it => element('li', {}, lineOf(it), ...changes(it))));
             this.log.scrollTop = this.log.scrollHeight;
@@ -231,9 +238,13 @@ var Cnum = globalThis.Cnum || {};
         }
 
         showNodes(nodes) {
-            const heads = ['node_head', 'object_head', 'register_A', 'register_B', 'comers'].map(it => say(it));
+            const teams = teamsOf(this.plan);
+            const registers = teams.map(team => say('register', { team }));
+            const heads = [say('node_head'), say('object_head'), ...registers, say('comers')];
             const objectOf = ({ state, last }) => (last ? say('object_after', last) : say('object_start', { state }));
-            const rows = nodes.map((it, node) => [say('node', { node }), objectOf(it), it.A, it.B, this.comers(node)]);
+            const isOf = (team, node) => this.plan.nodes[node].teams.includes(team);
+            const held = ({ registers }, node) => teams.map(team => (isOf(team, node) ? registers[team] || '' : say('no_cell')));
+            const rows = nodes.map((it, node) => [say('node', { node }), objectOf(it), ...held(it, node), this.comers(node)]);
             this.nodes.replaceChildren(tableOf(heads, rows));
         }
 
@@ -241,6 +252,12 @@ var Cnum = globalThis.Cnum || {};
         comers(node) {
             const places = this.plan.paths.flatMap((path, process) => path.map(it => ({ ...it, process })));
             return places.filter(it => it.node === node).map(({ process, team }) => say('comer', { process, team })).join(', ');
+        }
+
+        // The picture of the states with the start and the teams of a node.
+        statesOf(node) {
+            if (!this.pictures.has(node)) this.pictures.set(node, this.protocol.page.picture(this.plan.nodes[node]));
+            return this.pictures.get(node);
         }
 
         // Lights up the state of the object on which the last operation was, and the arrow of that operation. The
@@ -251,9 +268,11 @@ var Cnum = globalThis.Cnum || {};
             const { state } = nodes[node];
             const text = last ? say('object_after', last) : say('object_start', { state });
             this.object.textContent = say('object_of_node', { node, text });
-            Cnum.lightUp(this.states, state, last);
+            const picture = this.statesOf(node);
+            this.states.replaceChildren(picture);
+            Cnum.lightUp(picture, state, last);
             Cnum.lightUp(this.protocol.page.mainPicture(), last ? state : null, last);
-            Cnum.reveal(this.states.parentElement, '.node.lit');
+            Cnum.reveal(this.states, '.node.lit');
         }
     }
 

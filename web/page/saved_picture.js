@@ -7,6 +7,15 @@ var Cnum = globalThis.Cnum || {};
     const { svgElement } = Cnum;
     const LARGER = 2; // points of a PNG for one of the SVG
     const MOST = 8192; // points of a PNG across or down
+    const TEAMS = ['#0060a8', '#b34700', '#00403b', '#8100f2', '#8c0070', '#4c3d00', '#8c5b68', '#171799'];
+    // The look of a team, by the place of its name.
+    const styleOf = (color, place) => {
+        const name = Cnum.plans.NAMES[place];
+        return `
+        .label .team-${name}, .space-time .team-${name} { fill: ${color} }
+        .way-${name} { stroke: ${color} }
+        text.way-${name} { fill: ${color}; stroke: #fff }`;
+    };
     // The look of a picture when it is saved. On the page, the style sheet has other colours for the dark.
     const STYLE = `
         text { font: ${Cnum.FONT}; fill: #1a1a1a }
@@ -16,24 +25,16 @@ var Cnum = globalThis.Cnum || {};
         .tip { fill: #666 }
         .label rect { fill: none }
         .label text:not(.badge) { paint-order: stroke; stroke: #fff; stroke-width: 4px }
-        .label .team-A { fill: #0060a8 }
-        .label .team-B { fill: #b34700 }
-        .label .badge { fill: #fff; font-weight: bold; font-size: 11px }
+        text.badge { fill: #fff; font-weight: bold; font-size: 11px }
         .world-line, .cross { stroke: #444; fill: none; stroke-width: 1.5 }
         .cross { stroke: #a3131a; stroke-width: 2.5 }
         .bolt { fill: #a3131a }
         .heads rect { fill: #fff }
-        .space-time .team-A { fill: #0060a8 }
-        .space-time .team-B { fill: #b34700 }
         .space-time .open { fill: #fff; stroke: #444; stroke-width: 1.5 }
         .space-time .end { fill: #fff; stroke: #6a3fb5; stroke-width: 3 }
         .space-time .decides { font-weight: bold }
         .space-time .where { fill: #555 }
-        .way { fill: none; stroke-width: 1.5 }
-        .way-A { stroke: #0060a8 }
-        .way-B { stroke: #b34700 }
-        text.way-A { fill: #0060a8; stroke: #fff }
-        text.way-B { fill: #b34700; stroke: #fff }`;
+        .way { fill: none; stroke-width: 1.5 }${TEAMS.map(styleOf).join('')}`;
 
     // The text of an SVG file. What a run lights up is left out.
     Cnum.svgText = function (picture) {

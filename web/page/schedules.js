@@ -1,23 +1,30 @@
-// The schedules that an adversary tries: all of them up to a bound, or some at random. A schedule is a list of acts. It is
-// tried by one run of the program, to the end of every process.
+// The schedules that an adversary tries: all of them, by the configurations that they lead to, or some at random. A schedule
+// is a list of acts. It is tried by one run of the program.
 var Cnum = globalThis.Cnum || {};
 
 (() => {
     'use strict';
 
-    const { CRASH, STEP, mostSteps, stepOf } = Cnum.run;
-    // The first acts are in any order, with so many crashes among them. After them each process goes on alone until it
-    // decides. Two processes together take no more than 8 steps, so that no schedule is left out for them.
-    const BOUNDS = { 2: { acts: 8, crashes: 0 }, 3: { acts: 5, crashes: 0 } };
-    const BOUNDS_OF_LIVES = { 2: { acts: 7, crashes: 2 }, 3: { acts: 4, crashes: 1 } };
+    const { CRASH, STEP, UNDECIDED, after, stepOf } = Cnum.run;
+    // All schedules are tried if there are at most about so many configurations.
+    const MOST_CONFIGURATIONS = 2500;
     const AT_RANDOM = 500;
 
-    const boundOf = ({ processes, comeBack }) => (comeBack ? BOUNDS_OF_LIVES : BOUNDS)[processes];
     const crashOf = process => ({ process, does: CRASH });
+    const actsOf = events => events.map(({ process, does }) => ({ process, does }));
 
-    // The processes one after the other, each until it has decided.
-    function alone(plan) {
-        return Array.from({ length: plan.processes }, (_, process) => Array(mostSteps(plan)).fill(stepOf(process))).flat();
+    // The processes one after the other from this one on, each until it has decided.
+    function alone(plan, first = 0) {
+        const inTurn = Array.from({ length: plan.processes }, (_, place) => (first + place) % plan.processes);
+        return inTurn.flatMap(process => Array(plan.most).fill(stepOf(process)));
+    }
+
+    // All processes in turn, a step each time, until they have decided. Those that come back all crash on the way.
+    function inTurns(plan) {
+        const everyone = Array.from({ length: plan.processes }, (_, process) => process);
+        const rounds = count => Array(count).fill(everyone.map(stepOf)).flat();
+        const crashes = plan.comeBack ? [...rounds(Math.floor(plan.most / 2)), ...everyone.map(crashOf)] : [];
+        return [...crashes, ...rounds(plan.most)];
     }
 
     // The events of a process since it last crashed.
@@ -26,48 +33,94 @@ var Cnum = globalThis.Cnum || {};
         return own.slice(own.map(it => it.does).lastIndexOf(CRASH) + 1);
     }
 
+    const livesOf = (events, { processes }) => Array.from({ length: processes }, (_, process) => lifeOf(process, events));
     const hasDecided = life => life.some(it => it.kind === 'decides');
     const crashesIn = events => events.filter(it => it.does === CRASH).length;
 
-    // What may come at this place of a run, behind these events: the steps of those who go on, and then the crashes of those
-    // who have something to forget. Beyond the bound, a process that has begun goes on alone, and none crashes.
-    function choices(events, processes, { acts, crashes }) {
-        const lives = Array.from({ length: processes }, (_, process) => lifeOf(process, events));
-        const going = lives.map((_, process) => process).filter(it => !hasDecided(lives[it]));
-        const last = events.length && events[events.length - 1].process;
-        if (events.length > acts && going.includes(last)) return [stepOf(last)];
-        const mayCrash = events.length < acts && crashesIn(events) < crashes;
-        const begun = lives.map((_, process) => process).filter(it => mayCrash && lives[it].length);
-        return [...going.map(stepOf), ...begun.map(crashOf)];
+    // What may come behind these events: the steps of those who go on, and the crashes of those who have something to forget.
+    function choices(events, plan) {
+        const lives = livesOf(events, plan);
+        const all = lives.map((_, process) => process);
+        const begun = plan.comeBack ? all.filter(it => lives[it].length) : [];
+        return [...all.filter(it => !hasDecided(lives[it])).map(stepOf), ...begun.map(crashOf)];
     }
 
-    const isSame = (a, b) => a.process === b.process && a.does === b.does;
+    // The configuration behind these events: what objects and registers hold, and what each process remembers. That is how
+    // many steps it has taken since it last crashed, the value that it goes on with, and what it got last.
+    function configurationOf(events, plan) {
+        const memories = livesOf(events, plan).map(life => {
+            const [last] = life.slice(-1).map(({ kind, team, response, state, value }) => [kind, team, response, state, value]);
+            const taken = life.filter(it => it.kind === 'takes').pop();
+            return [life.length, taken && taken.value, last];
+        });
+        const nodes = after(events, plan).nodes.map(({ state, registers }, node) => [state, plan.nodes[node].teams.map(it => registers[it])]);
+        return JSON.stringify([nodes, memories]);
+    }
 
-    // The beginning of the next schedule after this run, or null if it was the last.
-    function nextBeginning(events, processes, bound) {
-        for (let at = events.length - 1; at >= 0; at--) {
-            const before = events.slice(0, at);
-            const possible = choices(before, processes, bound);
-            const other = possible[possible.findIndex(it => isSame(it, events[at])) + 1];
-            if (other) return [...before.map(({ process, does }) => ({ process, does })), other];
+    // Whether the configurations are few enough to try them all.
+    const areFew = ({ steps }) => steps.reduce((product, it) => product * (it + 1), 1) <= MOST_CONFIGURATIONS;
+
+    const nameOf = ({ process, does }) => `${does} ${process}`;
+
+    // The configurations that runs have come to. Each has the acts that led there first, what may come next, and where each act
+    // led that was tried there.
+    class Configurations {
+        constructor(plan) {
+            Object.assign(this, { plan, found: new Map(), byLength: [] });
+            this.first = this.after([]);
         }
-        return null;
+
+        // The configuration behind these events.
+        after(events) {
+            const text = configurationOf(events, this.plan);
+            if (!this.found.has(text)) {
+                const made = { acts: actsOf(events), choices: choices(events, this.plan), next: new Map() };
+                this.found.set(text, made);
+                (this.byLength[events.length] = this.byLength[events.length] || []).push(made);
+            }
+            return this.found.get(text);
+        }
+
+        // Takes in all that a run came to.
+        add(events) {
+            let here = this.first;
+            events.forEach((event, index) => {
+                const name = nameOf(event);
+                if (!here.next.has(name)) here.next.set(name, this.after(events.slice(0, index + 1)));
+                here = here.next.get(name);
+            });
+        }
+
+        // What was not tried at a configuration, or nothing.
+        untriedAt(configuration) {
+            return configuration.choices.find(it => !configuration.next.has(nameOf(it)));
+        }
+
+        // The configuration with the fewest acts at which something was not tried; nothing if all was.
+        firstOpen() {
+            for (const its of this.byLength) {
+                while (its && its.length && !this.untriedAt(its[its.length - 1])) its.pop();
+                if (its && its.length) return its[its.length - 1];
+            }
+            return undefined;
+        }
     }
 
-    // A beginning with the processes after it, of which the first to go on is the one that begins.
-    function completion(beginning, plan, bound) {
-        const last = beginning.length > bound.acts ? [beginning[beginning.length - 1].process] : [];
-        return [...beginning, ...last.flatMap(it => Array(mostSteps(plan)).fill(stepOf(it))), ...alone(plan)];
-    }
-
-    // Goes through all schedules up to the bound. `run` gives the events of a schedule; `judge` is told of each.
+    // Goes through all configurations that schedules lead to. `run` gives the events of a schedule; `judge` is told of each
+    // run. The answer is the number of configurations. Each run goes on to its end, and so tries one act in many of them. The last
+    // run is one with many turns, to be shown.
     async function all(plan, run, judge) {
-        const bound = boundOf(plan);
-        for (let beginning = []; beginning; ) {
-            const attempt = await run(completion(beginning, plan, bound));
-            if (!attempt || !judge(attempt)) return;
-            beginning = nextBeginning(attempt.events, plan.processes, bound);
+        const configurations = new Configurations(plan);
+        for (let here = configurations.first; here; here = configurations.firstOpen()) {
+            const act = configurations.untriedAt(here);
+            const attempt = await run([...here.acts, act, ...alone(plan, act.process)]);
+            if (!attempt || !judge(attempt)) return configurations.found.size;
+            configurations.add(attempt.events);
+            if (!here.next.has(nameOf(act))) here.next.set(nameOf(act), here); // an act that the run leaves out changes nothing
         }
+        const last = await run(inTurns(plan));
+        if (last) judge(last);
+        return configurations.found.size;
     }
 
     // Numbers from 0 up to 1, the same ones each time.
@@ -82,10 +135,10 @@ var Cnum = globalThis.Cnum || {};
         const source = numbers(plan.processes);
         const number = () => source.next().value;
         // Each process crashes about once, so that its lives are long enough.
-        const crashes = () => plan.comeBack && number() < 1 / (2 * mostSteps(plan));
+        const crashes = () => plan.comeBack && number() < 1 / (2 * plan.most);
         const act = () => ({ process: Math.floor(number() * plan.processes), does: crashes() ? CRASH : STEP });
         for (let count = 0; count < AT_RANDOM; count++) {
-            const word = Array.from({ length: 2 * plan.processes * mostSteps(plan) }, act);
+            const word = Array.from({ length: 2 * plan.processes * plan.most }, act);
             const attempt = await run([...word, ...alone(plan)]);
             if (!attempt || !judge(attempt)) return;
         }
@@ -100,36 +153,47 @@ var Cnum = globalThis.Cnum || {};
         return more > 0 || (more === 0 && turnsIn(events) > turnsIn(other.events));
     }
 
-    // Whether no process takes more steps without a crash than it takes at most.
-    function areShort(events, plan) {
-        const taken = Array(plan.processes).fill(0);
-        return events.every(({ process, does }) => {
+    // Whether no process takes more steps without a crash than it takes at most, and none that took so many is undecided.
+    function areShort(events, { steps }) {
+        const taken = steps.map(() => 0);
+        const decisions = steps.map(() => UNDECIDED);
+        return events.every(({ process, does, kind, value }) => {
             taken[process] = does === CRASH ? 0 : taken[process] + 1;
-            return taken[process] <= mostSteps(plan);
+            decisions[process] = kind === 'decides' ? value : UNDECIDED;
+            return taken[process] < steps[process] || (taken[process] === steps[process] && decisions[process] !== UNDECIDED);
         });
     }
 
-    // Whether the processes of a run agree on the input of one of them, whenever they decide, and each has decided in the
-    // end, within its most steps.
-    function isRight({ events, inputs }, plan) {
-        const decisions = events.filter(it => it.kind === 'decides');
-        const areSame = decisions.every(it => it.value === decisions[0].value && inputs.map(BigInt).includes(BigInt(it.value)));
-        const haveDecided = inputs.every((_, process) => hasDecided(lifeOf(process, events)));
-        return haveDecided && areSame && areShort(events, plan);
+    // Whether each decision is the input of a process that took part before it.
+    function areOfParticipants({ events, inputs }) {
+        const proposed = new Set();
+        return events.every(({ process, kind, value }) => {
+            proposed.add(BigInt(inputs[process]));
+            return kind !== 'decides' || proposed.has(BigInt(value));
+        });
+    }
+
+    // Whether the processes of a run agree on the input of one that has taken part, whenever they decide, and each decides within
+    // its most steps.
+    function isRight(attempt, plan) {
+        const decisions = attempt.events.filter(it => it.kind === 'decides');
+        const areSame = decisions.every(it => it.value === decisions[0].value);
+        return areSame && areOfParticipants(attempt) && areShort(attempt.events, plan);
     }
 
     // Tries schedules of a plan. `run` gives for a schedule { events, inputs }, or null to end early. Answers how many there
-    // were, the bound if they are all up to it, of those with the most crashes the one with the most turns, and the one
-    // that is not right, if there is any.
+    // were, the number of configurations if all schedules were tried, of those with the most crashes the one with the most
+    // turns, and the one that is not right, if there is any.
     Cnum.tryToBreak = async function (plan, run, tell) {
-        const found = { count: 0, bound: boundOf(plan), worst: null, broken: null };
+        const found = { count: 0, configurations: null, worst: null, broken: null };
         const judge = attempt => {
             tell(++found.count);
             if (!isRight(attempt, plan)) found.broken = attempt;
             if (!found.worst || isHarder(attempt, found.worst)) found.worst = attempt;
             return !found.broken;
         };
-        await (found.bound ? all : atRandom)(plan, run, judge);
+        if (areFew(plan)) found.configurations = await all(plan, run, judge);
+        else await atRandom(plan, run, judge);
         return found;
     };
 })();

@@ -13,6 +13,7 @@ var Cnum = globalThis.Cnum || {};
     const LEAST = 62; // the width of a step
     const EMPTY = 260; // the length of a line before the first step
     const MARK = 6;
+    const TEAM_MARK = 9; // of a mark with the letter of a team
 
     // What a step did, and where, as two short texts.
     const TEXTS = {
@@ -62,8 +63,8 @@ var Cnum = globalThis.Cnum || {};
 
     // The shape of each kind of step.
     const SHAPES = {
-        writes: ({ x, y }, team) => square(x, y, MARK - 1, { class: team }),
-        applies: ({ x, y }, team) => svgElement('circle', { cx: x, cy: y, r: MARK + 1, class: team }),
+        writes: ({ x, y }, team) => square(x, y, TEAM_MARK - 1, { class: `team-${team}` }),
+        applies: ({ x, y }, team) => svgElement('circle', { cx: x, cy: y, r: TEAM_MARK, class: `team-${team}` }),
         looks: openCircle,
         reads: openCircle,
         misses: openSquare,
@@ -73,12 +74,18 @@ var Cnum = globalThis.Cnum || {};
         crashes: ({ x, y }) => svgElement('path', { d: `M${x + 3},${y - 10}l-9,11h5l-3,9l9,-12h-5z`, class: 'bolt' }),
     };
 
+    // The kinds of steps whose marks have the letter of the team.
+    const LETTERED = ['writes', 'applies'];
+
     function mark(it, teamOf) {
         const { event, texts, x, y } = it;
-        const shape = SHAPES[event.kind](it, `team-${teamOf(event)}`);
-        const above = svgElement('text', { x, y: y - 14, 'text-anchor': 'middle', class: event.kind }, texts[0]);
-        const below = svgElement('text', { x, y: y + 24, 'text-anchor': 'middle', class: 'where' }, texts[1]);
-        return svgElement('g', { class: 'mark-of-step' }, shape, above, ...(texts[1] ? [below] : []));
+        const team = teamOf(event);
+        const middle = { x, 'text-anchor': 'middle' };
+        const above = svgElement('text', { ...middle, y: y - 14, class: event.kind }, texts[0]);
+        const below = svgElement('text', { ...middle, y: y + 24, class: 'where' }, texts[1]);
+        const letter = svgElement('text', { ...middle, y: y + 4, class: 'badge' }, team);
+        const more = [...(texts[1] ? [below] : []), ...(LETTERED.includes(event.kind) ? [letter] : [])];
+        return svgElement('g', { class: 'mark-of-step' }, SHAPES[event.kind](it, team), above, ...more);
     }
 
     const line = ({ from, to, y }) => svgElement('path', { class: 'world-line', d: `M${from},${y}H${to}` });

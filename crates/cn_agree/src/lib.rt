@@ -35,4 +35,4 @@ pub use local::{Local, Stage};
 pub use next_action::{Action, StepRecord};
 pub use node::Node;
 pub use round::Round;
-pub use schedule::{Course, Decided, run_schedule, run_steps};
+pub use schedule::{Course, Decided, run_schedule, run_steps, schedule_fault};

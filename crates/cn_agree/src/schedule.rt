@@ -55,11 +55,13 @@ fn stranger_at(processes: u8, schedule: &[u8]) -> Option<usize>
     schedule.iter().position(|p| *p >= processes)
 }
 
-/// The first fault of inputs and a schedule for the processes of a plan.
-fn fault_of(plan: &Plan, inputs: &[u64], schedule: &[u8]) -> Option<ScheduleFault>
-    ensures { result ≡ schedule_fault (processes_of plan.now) inputs.now schedule.now }
+/// The first fault of inputs and a schedule for this number of processes, or none: `InputCount` if
+/// the number of inputs is another one; else `NoSuchProcess` with the first place of the schedule
+/// that names no process.
+pub fn schedule_fault(processes: u8, inputs: &[u64], schedule: &[u8]) -> Option<ScheduleFault>
+    // promise: decisions-of-a-schedule
+    ensures { result ≡ schedule_fault processes inputs.now schedule.now }
 {
-    let processes = plan.processes();
     if inputs.len() != usize::from(processes) {
         return Some(ScheduleFault::InputCount);
     }
@@ -167,7 +169,7 @@ fn begun_round(
     ensures refused { IfErr result (λ e. (e ≡ OutOfMemory)
         ⊎ (schedule_fault (processes_of plan.now) inputs.now schedule.now ≡ Some e)) }
 {
-    if let Some(fault) = fault_of(plan, inputs, schedule) {
+    if let Some(fault) = schedule_fault(plan.processes(), inputs, schedule) {
         return Err(fault);
     }
     let mut round = Round::new(alloc, plan)?;

@@ -1,5 +1,6 @@
 -- What each command writes.
 pub mod Agree
+pub mod AgreeShortest
 pub mod Check
 pub mod CheckUnread
 pub mod Classify
@@ -13,7 +14,9 @@ pub mod Lives
 pub mod Pairs
 pub mod Replay
 pub mod Serve
+pub mod Shortest
 pub mod Show
+pub mod ShowShortest
 pub mod Why
 pub mod WhyRecoverable
 pub mod WhyUnread

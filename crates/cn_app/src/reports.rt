@@ -4,6 +4,7 @@
 //! ([`commands`](crate::commands)) read the values and write the reports.
 
 mod agree;
+mod agree_shortest;
 pub(crate) mod check;
 pub(crate) mod check_unread;
 mod classify;
@@ -16,12 +17,15 @@ mod lives;
 mod pairs;
 mod replay;
 mod serve;
+mod shortest;
 mod show;
+mod show_shortest;
 mod why;
 mod why_recoverable;
 mod why_unread;
 
 pub use agree::{AskedRun, agree_report};
+pub use agree_shortest::agree_shortest_report;
 pub use classify::{AskedNumbers, check_limit, classification_of, head_report, numbers_report};
 pub use draw::draw_report;
 pub use explain::explain_report;
@@ -33,6 +37,7 @@ pub use pairs::pairs_report;
 pub use replay::replay_report;
 pub use serve::serve_report;
 pub use show::{plan_as, show_report};
+pub use show_shortest::{show_shortest_report, tree_as};
 pub use why::why_report;
 pub use why_recoverable::why_recoverable_report;
 pub use why_unread::why_unread_report;

@@ -1,50 +1,128 @@
 -- The words of C.
 use Rattle.std.specs.Prelude.{ℕ, List, ◌++◌, codes}
+use Rattle.cn_code.specs.TournamentCWords.{c_own_tournament_word, c_tournament_word}
+use Rattle.cn_code.specs.TreeCWords.{c_blind_word, c_look_word, c_tree_word}
+use Rattle.cn_code.specs.declared.language.Form.{Form}
+use Rattle.cn_code.specs.declared.language.Form.TheVariants.{Tournament, LookTree, BlindTree}
+use Rattle.cn_code.specs.declared.language.OwnPart.{OwnPart}
 use Rattle.cn_code.specs.declared.language.Part.{Part}
-use Rattle.cn_code.specs.declared.language.Part.TheVariants.{Title, TypeName, Processes, Nodes, Start, StartNumber, States, Operations, Responses, Name, NameNumber, Places, ProcessField, NodeField, TeamField, RoleField, OperationField, OperationName, Judgements, RoleNumber, RoleOperation, RoleStart, Row, Team, ResponseName, RoleEnd, LineEnd, Program}
+use Rattle.cn_code.specs.declared.language.Part.TheVariants.{Title, TypeName, Intro, Claims}
+use Rattle.cn_code.specs.declared.language.Part.TheVariants.{FirstUses, LastUses, Processes, Nodes}
+use Rattle.cn_code.specs.declared.language.Part.TheVariants.{States, Operations, Responses, Name}
+use Rattle.cn_code.specs.declared.language.Part.TheVariants.{NameNumber, Places, PlaceLines}
+use Rattle.cn_code.specs.declared.language.Part.TheVariants.{ProcessField, NodeField, TeamField}
+use Rattle.cn_code.specs.declared.language.Part.TheVariants.{OperationField, OperationName}
+use Rattle.cn_code.specs.declared.language.Part.TheVariants.{JudgementStart, JudgementEnd, LineEnd}
+use Rattle.cn_code.specs.declared.language.Part.TheVariants.{Program, InTournament, InTree, Own}
+use Rattle.cn_code.specs.declared.language.ProgramPart.{ProgramPart}
+use Rattle.cn_code.specs.declared.language.ProgramPart.TheVariants.{Object, ObjectEnd, Node}
+use Rattle.cn_code.specs.declared.language.ProgramPart.TheVariants.{NodeFields, Consensus, New}
+use Rattle.cn_code.specs.declared.language.ProgramPart.TheVariants.{Decide, Apply, Take, End}
+
+-- the objects, the registers and the algorithm
+unfoldable pub c_program_word : ProgramPart → List ℕ
+c_program_word Object =
+    codes "};\n"
+    ++ codes "\n"
+    ++ codes "/* An object of the type. Threads share it. Each call is one atomic step, in the one order of all\n"
+    ++ codes " * memory_order_seq_cst operations. */\n"
+    ++ codes "struct consensus_object {\n"
+    ++ codes "    void *self;\n"
+    ++ codes "    /* Applies an operation, and returns the response. */\n"
+    ++ codes "    unsigned (*apply)(void *self, unsigned operation);\n"
+c_program_word ObjectEnd =
+    codes "};\n"
+    ++ codes "\n"
+c_program_word Node = codes "/* A node of the "
+c_program_word NodeFields =
+    codes ". */\n"
+    ++ codes "struct consensus_node {\n"
+    ++ codes "    struct consensus_object object;\n"
+    ++ codes "    _Atomic uint64_t registers["
+c_program_word Consensus =
+    codes "];\n"
+    ++ codes "};\n"
+    ++ codes "\n"
+    ++ codes "/* One decision of all processes. */\n"
+    ++ codes "struct consensus {\n"
+    ++ codes "    struct consensus_node nodes[CONSENSUS_NODES];\n"
+    ++ codes "};\n"
+    ++ codes "\n"
+    ++ codes "/* Takes "
+c_program_word New =
+    codes ". */\n"
+    ++ codes "void consensus_new(struct consensus *consensus, const struct consensus_object objects[])\n"
+    ++ codes "{\n"
+    ++ codes "    for (unsigned k = 0; k < CONSENSUS_NODES; k++) {\n"
+    ++ codes "        struct consensus_node *node = &consensus->nodes[k];\n"
+    ++ codes "        node->object = objects[k];\n"
+    ++ codes "        "
+c_program_word Decide =
+    codes "\n"
+    ++ codes "    }\n"
+    ++ codes "}\n"
+    ++ codes "\n"
+    ++ codes "/* Proposes a value for a process, and returns the value that all processes decide.\n"
+    ++ codes " *\n"
+    ++ codes " * Each process calls this at most once. Calls of different processes may overlap. The process is\n"
+    ++ codes " * below CONSENSUS_PROCESSES. */\n"
+    ++ codes "uint64_t consensus_decide(struct consensus *consensus, unsigned process, uint64_t value)\n"
+    ++ codes "{\n"
+    ++ codes "    assert(process < CONSENSUS_PROCESSES);\n"
+    ++ codes "    for (unsigned k = 0; k < CONSENSUS_LENGTH(consensus_places); k++) {\n"
+    ++ codes "        const struct consensus_place *place = &consensus_places[k];\n"
+    ++ codes "        if (place->process != process)\n"
+    ++ codes "            continue;\n"
+    ++ codes "        struct consensus_node *node = &consensus->nodes[place->node];\n"
+    ++ codes "        /* Step 1: write the value to the register of the own team. */\n"
+    ++ codes "        atomic_store(&node->registers[place->team"
+c_program_word Apply =
+    codes "], value);\n"
+    ++ codes "        /* Step 2: apply the operation to the object. */\n"
+    ++ codes "        unsigned response = node->object.apply(node->object.self, place->operation);\n"
+    ++ codes "        "
+c_program_word Take =
+    codes ": read the register of that team. Go on with its value, or decide it. */\n"
+    ++ codes "        value = atomic_load(&node->registers[first"
+c_program_word End =
+    codes "]);\n"
+    ++ codes "    }\n"
+    ++ codes "    return value;\n"
+    ++ codes "}\n"
+
+-- the words of a form
+unfoldable pub c_own_word : Form → OwnPart → List ℕ
+c_own_word Tournament part = c_own_tournament_word part
+c_own_word LookTree part = c_look_word part
+c_own_word BlindTree part = c_blind_word part
 
 unfoldable pub c_word : Part → List ℕ
 c_word Title = codes "/* Consensus among "
 c_word TypeName = codes " processes through objects of the type "
-c_word Processes =
+c_word Intro =
     codes ".\n"
     ++ codes " *\n"
-    ++ codes " * cnum wrote this file. The processes meet in a tournament: each node has an object, and a\n"
-    ++ codes " * register for each of two teams. All processes decide one value, and one of them has proposed it.\n"
-    ++ codes " * This holds for every schedule, and if processes stop. A process takes four steps at each of its\n"
-    ++ codes " * places: at most 4 * (CONSENSUS_PROCESSES - 1) until it decides, whatever the others do. */\n"
+    ++ codes " * cnum wrote this file. The processes meet "
+c_word Claims =
+    codes " All processes decide one value, and one of them has proposed it.\n"
+    ++ codes " * This holds for every schedule, and if processes stop. A process takes "
+c_word FirstUses =
+    codes " */\n"
     ++ codes "#include <assert.h>\n"
     ++ codes "#include <stdatomic.h>\n"
-    ++ codes "#include <stdint.h>\n"
+c_word LastUses =
+    codes "#include <stdint.h>\n"
     ++ codes "\n"
     ++ codes "#define CONSENSUS_LENGTH(list) (sizeof(list) / sizeof *(list))\n"
     ++ codes "\n"
-    ++ codes "/* A team of a node. */\n"
-    ++ codes "enum consensus_team { TEAM_A, TEAM_B };\n"
-    ++ codes "\n"
-    ++ codes "/* A place of a process: its node, and its team, role and operation there. */\n"
-    ++ codes "struct consensus_place {\n"
-    ++ codes "    unsigned process;\n"
-    ++ codes "    unsigned node;\n"
-    ++ codes "    enum consensus_team team;\n"
-    ++ codes "    unsigned role;\n"
-    ++ codes "    unsigned operation;\n"
-    ++ codes "};\n"
-    ++ codes "\n"
-    ++ codes "/* The number of processes. */\n"
+c_word Processes =
+    codes "/* The number of processes. */\n"
     ++ codes "#define CONSENSUS_PROCESSES "
 c_word Nodes =
     codes "\n"
     ++ codes "\n"
     ++ codes "/* The number of nodes. Node 0 is the root, where every process decides. */\n"
     ++ codes "#define CONSENSUS_NODES "
-c_word Start =
-    codes "\n"
-    ++ codes "\n"
-    ++ codes "/* The state in which each object starts: "
-c_word StartNumber =
-    codes ". */\n"
-    ++ codes "#define CONSENSUS_START "
 c_word States =
     codes "\n"
     ++ codes "\n"
@@ -65,87 +143,21 @@ c_word NameNumber = codes "\", /* "
 c_word Places =
     codes "};\n"
     ++ codes "\n"
-    ++ codes "/* The tournament: the places of each process, from its lowest node to the root. */\n"
+    ++ codes "/* The "
+c_word PlaceLines =
+    codes ": the places of each process, from its lowest node to the root. */\n"
     ++ codes "static const struct consensus_place consensus_places[] = {\n"
 c_word ProcessField = codes "    {.process = "
 c_word NodeField = codes ", .node = "
 c_word TeamField = codes ", .team = "
-c_word RoleField = codes ", .role = "
 c_word OperationField = codes ", .operation = "
 c_word OperationName = codes "}, /* "
-c_word Judgements =
-    codes "};\n"
-    ++ codes "\n"
-    ++ codes "/* The judgements: for each role, response and state the team that came first at the node. The\n"
-    ++ codes " * comment names the response, and the states for which this is team A. */\n"
-    ++ codes "static const enum consensus_team consensus_judgements[CONSENSUS_PROCESSES]\n"
-    ++ codes "    [CONSENSUS_LENGTH(consensus_responses)][CONSENSUS_LENGTH(consensus_states)] = {\n"
-c_word RoleNumber = codes "    /* role "
-c_word RoleOperation = codes ": "
-c_word RoleStart =
+c_word JudgementStart =
     codes " */\n"
     ++ codes "    {\n"
-c_word Row = codes "        {"
-c_word Team = codes "TEAM_"
-c_word ResponseName = codes "}, /* "
-c_word RoleEnd = codes "    },\n"
+c_word JudgementEnd = codes "    },\n"
 c_word LineEnd = codes " */\n"
-c_word Program =
-    codes "};\n"
-    ++ codes "\n"
-    ++ codes "/* An object of the type. Threads share it. Each call is one atomic step, in the one order of all\n"
-    ++ codes " * memory_order_seq_cst operations. */\n"
-    ++ codes "struct consensus_object {\n"
-    ++ codes "    void *self;\n"
-    ++ codes "    /* Applies an operation, and returns the response. */\n"
-    ++ codes "    unsigned (*apply)(void *self, unsigned operation);\n"
-    ++ codes "    /* Reads the state. */\n"
-    ++ codes "    unsigned (*read)(void *self);\n"
-    ++ codes "};\n"
-    ++ codes "\n"
-    ++ codes "/* A node of the tournament. */\n"
-    ++ codes "struct consensus_node {\n"
-    ++ codes "    struct consensus_object object;\n"
-    ++ codes "    _Atomic uint64_t registers[2];\n"
-    ++ codes "};\n"
-    ++ codes "\n"
-    ++ codes "/* One decision of all processes. */\n"
-    ++ codes "struct consensus {\n"
-    ++ codes "    struct consensus_node nodes[CONSENSUS_NODES];\n"
-    ++ codes "};\n"
-    ++ codes "\n"
-    ++ codes "/* Takes an object in the state CONSENSUS_START for each node. */\n"
-    ++ codes "void consensus_new(struct consensus *consensus, const struct consensus_object objects[])\n"
-    ++ codes "{\n"
-    ++ codes "    for (unsigned k = 0; k < CONSENSUS_NODES; k++) {\n"
-    ++ codes "        struct consensus_node *node = &consensus->nodes[k];\n"
-    ++ codes "        node->object = objects[k];\n"
-    ++ codes "        atomic_init(&node->registers[TEAM_A], 0);\n"
-    ++ codes "        atomic_init(&node->registers[TEAM_B], 0);\n"
-    ++ codes "    }\n"
-    ++ codes "}\n"
-    ++ codes "\n"
-    ++ codes "/* Proposes a value for a process, and returns the value that all processes decide.\n"
-    ++ codes " *\n"
-    ++ codes " * Each process calls this at most once. Calls of different processes may overlap. The process is\n"
-    ++ codes " * below CONSENSUS_PROCESSES. */\n"
-    ++ codes "uint64_t consensus_decide(struct consensus *consensus, unsigned process, uint64_t value)\n"
-    ++ codes "{\n"
-    ++ codes "    assert(process < CONSENSUS_PROCESSES);\n"
-    ++ codes "    for (unsigned k = 0; k < CONSENSUS_LENGTH(consensus_places); k++) {\n"
-    ++ codes "        const struct consensus_place *place = &consensus_places[k];\n"
-    ++ codes "        if (place->process != process)\n"
-    ++ codes "            continue;\n"
-    ++ codes "        struct consensus_node *node = &consensus->nodes[place->node];\n"
-    ++ codes "        /* Step 1: write the value to the register of the own team. */\n"
-    ++ codes "        atomic_store(&node->registers[place->team], value);\n"
-    ++ codes "        /* Step 2: apply the operation to the object. */\n"
-    ++ codes "        unsigned response = node->object.apply(node->object.self, place->operation);\n"
-    ++ codes "        /* Step 3: read the object. Response and state tell which team came first. */\n"
-    ++ codes "        unsigned state = node->object.read(node->object.self);\n"
-    ++ codes "        enum consensus_team first = consensus_judgements[place->role][response][state];\n"
-    ++ codes "        /* Step 4: read the register of that team. Go on with its value, or decide it. */\n"
-    ++ codes "        value = atomic_load(&node->registers[first]);\n"
-    ++ codes "    }\n"
-    ++ codes "    return value;\n"
-    ++ codes "}\n"
+c_word (Program part) = c_program_word part
+c_word (InTournament part) = c_tournament_word part
+c_word (InTree part) = c_tree_word part
+c_word (Own form part) = c_own_word form part

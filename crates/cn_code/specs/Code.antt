@@ -1,10 +1,9 @@
--- The program of a plan: the parts of a language, and between them what is of the plan. Names stand
--- in texts and comments alone.
-use Rattle.std.specs.Prelude.{ℕ, zero, suc, List, [], ◌∷◌, ◌++◌, length, codes, decimal, flat_map}
+-- The program of a plan: what all programs have in common, and between its parts what is of the
+-- plan.
+use Rattle.std.specs.Prelude.{ℕ, List, [], ◌++◌, length, codes, flat_map}
 use Rattle.std.specs.Prelude.{slice_index}
 use Rattle.std.specs.List.{range_with_len}
 use Rattle.cn_table.specs.Names.{name_at}
-use Rattle.cn_table.specs.TypeTable.{TypeTable, operation_names}
 use Rattle.cn_choice.specs.Canonical.{raw_choice_of}
 use Rattle.cn_choice.specs.TeamNames.{team_name}
 use Rattle.cn_choice.specs.declared.team.Team.{Team as TeamOf}
@@ -13,88 +12,37 @@ use Rattle.cn_proto.specs.Plan.{Plan, processes_of, nodes_of, protocol_of}
 use Rattle.cn_proto.specs.PlanText.{operation_name_of}
 use Rattle.cn_proto.specs.Protocol.{place_of}
 use Rattle.cn_proto.specs.declared.place.Place.{Place}
-use Rattle.cn_code.specs.CWords.{c_word}
-use Rattle.cn_code.specs.RustWords.{rust_word}
+use Rattle.cn_code.specs.Frame.{all_names, comma, number_code, numbers_code, own_word, places_word}
+use Rattle.cn_code.specs.Frame.{program_code, text_code, word}
+use Rattle.cn_code.specs.declared.language.Form.TheVariants.{Tournament}
 use Rattle.cn_code.specs.declared.language.Language.{Language}
 use Rattle.cn_code.specs.declared.language.Language.TheVariants.{Rust, C}
-use Rattle.cn_code.specs.declared.language.Part.{Part}
-use Rattle.cn_code.specs.declared.language.Part.TheVariants.{Title, TypeName, Processes, Nodes}
-use Rattle.cn_code.specs.declared.language.Part.TheVariants.{Start, StartNumber, States, Operations}
-use Rattle.cn_code.specs.declared.language.Part.TheVariants.{Responses, Name, NameNumber, Places}
+use Rattle.cn_code.specs.declared.language.OwnPart.TheVariants.{Judgements, Row, ResponseName}
 use Rattle.cn_code.specs.declared.language.Part.TheVariants.{ProcessField, NodeField, TeamField}
-use Rattle.cn_code.specs.declared.language.Part.TheVariants.{RoleField, OperationField}
-use Rattle.cn_code.specs.declared.language.Part.TheVariants.{OperationName, Judgements, RoleNumber}
-use Rattle.cn_code.specs.declared.language.Part.TheVariants.{RoleOperation, RoleStart, Row, Team}
-use Rattle.cn_code.specs.declared.language.Part.TheVariants.{ResponseName, RoleEnd, LineEnd}
-use Rattle.cn_code.specs.declared.language.Part.TheVariants.{Program}
-use Rattle.cn_code.specs.declared.names.Kind.{Kind}
-use Rattle.cn_code.specs.declared.names.Kind.TheVariants.{State, Operation, Response}
+use Rattle.cn_code.specs.declared.language.Part.TheVariants.{OperationField, OperationName}
+use Rattle.cn_code.specs.declared.language.Part.TheVariants.{JudgementStart, JudgementEnd, LineEnd}
+use Rattle.cn_code.specs.declared.language.Part.TheVariants.{InTournament, Own}
+use Rattle.cn_code.specs.declared.language.TournamentPart.TheVariants.{Start, StartNumber, RoleField}
+use Rattle.cn_code.specs.declared.language.TournamentPart.TheVariants.{RoleNumber, RoleOperation, Team}
 
 -- ---- parts
 
--- the text of a language for a part
-unfoldable pub word : Language → Part → List ℕ
-word Rust part = rust_word part
-word C part = c_word part
-
--- a part, and a number behind it
-abbrev pub number_code : Language → Part → ℕ → List ℕ
-number_code l part number = word l part ++ decimal number
-
--- a part, and a text behind it
-abbrev pub text_code : Language → Part → List ℕ → List ℕ
-text_code l part text = word l part ++ text
-
 -- a team as a value of the language
 abbrev pub team_code : Language → TeamOf → List ℕ
-team_code l team = text_code l Team (team_name team)
-
--- a comma before each item but the first
-abbrev pub comma : ℕ → List ℕ
-comma zero = []
-comma (suc k) = codes ", "
+team_code l team = text_code l (InTournament Team) (team_name team)
 
 -- ---- the head
 
 -- the state in which each object starts
 abbrev pub start_code : Language → Plan → List ℕ
-start_code l plan = text_code l Start (name_at plan.table.states plan.choice.state)
-    ++ number_code l StartNumber plan.choice.state
+start_code l plan = text_code l (InTournament Start) (name_at plan.table.states plan.choice.state)
+    ++ number_code l (InTournament StartNumber) plan.choice.state
 
--- the type, and the numbers of processes and nodes
+-- the type, the numbers of processes and nodes, and the start state
 abbrev pub head_code : Language → Plan → List ℕ
 head_code l plan =
-    number_code l Title (processes_of plan) ++ text_code l TypeName plan.table.name
-    ++ number_code l Processes (processes_of plan) ++ number_code l Nodes (nodes_of plan)
+    numbers_code l Tournament plan.table.name (processes_of plan) (nodes_of plan)
     ++ start_code l plan
-
--- ---- names
-
--- every name of a type
-abbrev pub names_in : TypeTable → List (List ℕ)
-names_in t = t.name ∷ t.states ++ operation_names t ++ t.responses
-
-abbrev pub names_of : TypeTable → Kind → List (List ℕ)
-names_of t State = t.states
-names_of t Operation = operation_names t
-names_of t Response = t.responses
-
--- the part before the names
-abbrev pub part_of : Kind → Part
-part_of State = States
-part_of Operation = Operations
-part_of Response = Responses
-
--- a name, and its number in a comment
-abbrev pub name_line : Language → List (List ℕ) → ℕ → List ℕ
-name_line l names number =
-    text_code l Name (name_at names number) ++ number_code l NameNumber number ++ word l LineEnd
-
-abbrev pub name_lines : Language → List (List ℕ) → List ℕ
-name_lines l names = flat_map (name_line l names) (range_with_len 0 (length names))
-
-abbrev pub names_code : Language → TypeTable → Kind → List ℕ
-names_code l t kind = word l (part_of kind) ++ name_lines l (names_of t kind)
 
 -- ---- places
 
@@ -107,7 +55,7 @@ stand_code l p place =
 -- a role and its operation, and in a comment the name of the operation
 abbrev pub act_code : Language → Plan → ℕ → List ℕ
 act_code l plan role =
-    number_code l RoleField role
+    number_code l (InTournament RoleField) role
     ++ number_code l OperationField (slice_index (raw_choice_of plan.choice).operations role)
     ++ text_code l OperationName (operation_name_of plan role) ++ word l LineEnd
 
@@ -122,7 +70,7 @@ path_code l plan p =
 
 abbrev pub places_code : Language → Plan → List ℕ
 places_code l plan =
-    word l Places ++ flat_map (path_code l plan) (range_with_len 0 (processes_of plan))
+    places_word l Tournament ++ flat_map (path_code l plan) (range_with_len 0 (processes_of plan))
 
 -- ---- judgements
 
@@ -157,13 +105,13 @@ states_of_a plan role response =
 -- in a comment, the response and the states for which team A came first
 abbrev pub response_code : Language → Plan → ℕ → ℕ → List ℕ
 response_code l plan role response =
-    text_code l ResponseName (name_at plan.table.responses response) ++ codes ":"
+    text_code l (Own Tournament ResponseName) (name_at plan.table.responses response) ++ codes ":"
     ++ states_of_a plan role response ++ word l LineEnd
 
 -- the judgements of a role for a response
 abbrev pub row_code : Language → Plan → ℕ → ℕ → List ℕ
 row_code l plan role response =
-    word l Row ++ cells_code l plan role response ++ response_code l plan role response
+    own_word l Tournament Row ++ cells_code l plan role response ++ response_code l plan role response
 
 abbrev pub rows_code : Language → Plan → ℕ → List ℕ
 rows_code l plan role =
@@ -172,26 +120,25 @@ rows_code l plan role =
 -- in a comment, a role and the name of its operation
 abbrev pub role_head : Language → Plan → ℕ → List ℕ
 role_head l plan role =
-    number_code l RoleNumber role ++ text_code l RoleOperation (operation_name_of plan role)
-    ++ word l RoleStart
+    number_code l (InTournament RoleNumber) role
+    ++ text_code l (InTournament RoleOperation) (operation_name_of plan role)
+    ++ word l JudgementStart
 
 -- the judgements of a role
 abbrev pub role_code : Language → Plan → ℕ → List ℕ
-role_code l plan role = role_head l plan role ++ rows_code l plan role ++ word l RoleEnd
+role_code l plan role = role_head l plan role ++ rows_code l plan role ++ word l JudgementEnd
 
 abbrev pub judgements_code : Language → Plan → List ℕ
 judgements_code l plan =
-    word l Judgements ++ flat_map (role_code l plan) (range_with_len 0 (processes_of plan))
+    own_word l Tournament Judgements ++ flat_map (role_code l plan) (range_with_len 0 (processes_of plan))
 
 -- ---- the program
 
 abbrev pub tables_code : Language → Plan → List ℕ
-tables_code l plan =
-    names_code l plan.table State ++ names_code l plan.table Operation
-    ++ names_code l plan.table Response ++ places_code l plan ++ judgements_code l plan
+tables_code l plan = all_names l plan.table ++ places_code l plan ++ judgements_code l plan
 
 unfoldable pub code_text : Language → Plan → List ℕ
-code_text l plan = head_code l plan ++ tables_code l plan ++ word l Program
+code_text l plan = head_code l plan ++ tables_code l plan ++ program_code l Tournament
 
 -- the program in Rust
 abbrev pub rust_text : Plan → List ℕ

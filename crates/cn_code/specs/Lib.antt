@@ -1,3 +1,10 @@
 pub mod CWords
 pub mod Code
+pub mod Frame
 pub mod RustWords
+pub mod TournamentCWords
+pub mod TournamentRustWords
+pub mod TreeCWords
+pub mod TreeJudgements
+pub mod TreeRustWords
+pub mod Trees

@@ -2,11 +2,12 @@
 ghost use Rattle.std.specs.Prelude.{◌≡◌, ◌++◌, IfOk, OnOk, string_bytes};
 ghost use Rattle.cn_code.specs.Code.{c_text, code_text, head_code, rust_text, start_code, tables_code};
 
+use crate::frame::{push_numbers, push_program};
 use crate::judgements::push_judgements;
-use crate::language::{Language, Part};
-use crate::names::{Kind, push_names};
+use crate::language::{Form, Language, Part, TournamentPart};
+use crate::names::push_all_names;
 use crate::places::push_places;
-use crate::words::{push_number, push_text, push_word};
+use crate::words::{push_number, push_text};
 use cn_proto::Plan;
 use std::alloc::{AllocError, Global};
 
@@ -54,7 +55,7 @@ fn code_of(alloc: Global, language: Language, plan: &Plan) -> Result<String, All
     let mut text = String::new(alloc);
     push_head(&mut text, language, plan)?;
     push_tables(&mut text, language, plan)?;
-    push_word(&mut text, language, Part::Program)?;
+    push_program(&mut text, language, Form::Tournament)?;
     Ok(text)
 }
 
@@ -63,10 +64,15 @@ fn push_head(text: &mut String, language: Language, plan: &Plan) -> Result<(), A
     ensures { OnOk result (string_bytes text.new
         ≡ string_bytes text.old ++ head_code language plan.now) }
 {
-    push_number(text, language, Part::Title, plan.processes())?;
-    push_text(text, language, Part::TypeName, plan.table().name())?;
-    push_number(text, language, Part::Processes, plan.processes())?;
-    push_number(text, language, Part::Nodes, plan.nodes())?;
+    let name = plan.table().name();
+    push_numbers(
+        text,
+        language,
+        Form::Tournament,
+        name,
+        plan.processes(),
+        plan.nodes(),
+    )?;
     push_start(text, language, plan)
 }
 
@@ -75,8 +81,19 @@ fn push_start(text: &mut String, language: Language, plan: &Plan) -> Result<(), 
         ≡ string_bytes text.old ++ start_code language plan.now) }
 {
     let state = plan.start();
-    push_text(text, language, Part::Start, plan.table().state_name(state))?;
-    push_number(text, language, Part::StartNumber, state.0)
+    let name = plan.table().state_name(state);
+    push_text(
+        text,
+        language,
+        Part::InTournament(TournamentPart::Start),
+        name,
+    )?;
+    push_number(
+        text,
+        language,
+        Part::InTournament(TournamentPart::StartNumber),
+        state.0,
+    )
 }
 
 /// The names of the type, the places of the processes and the judgements of the roles.
@@ -84,9 +101,7 @@ fn push_tables(text: &mut String, language: Language, plan: &Plan) -> Result<(),
     ensures { OnOk result (string_bytes text.new
         ≡ string_bytes text.old ++ tables_code language plan.now) }
 {
-    push_names(text, language, plan.table(), Kind::State)?;
-    push_names(text, language, plan.table(), Kind::Operation)?;
-    push_names(text, language, plan.table(), Kind::Response)?;
+    push_all_names(text, language, plan.table())?;
     push_places(text, language, plan)?;
     push_judgements(text, language, plan)
 }

@@ -1,11 +1,11 @@
 //! The table of judgements.
 ghost use Rattle.std.specs.Prelude.{◌≡◌, ◌<◌, ◌++◌, OnOk, length, string_bytes};
 ghost use Rattle.cn_proto.specs.Plan.{processes_of};
-ghost use Rattle.cn_code.specs.Code.{cell_code, cells_code, comma, judgements_code, response_code, role_code, role_head, row_code, rows_code};
+ghost use Rattle.cn_code.specs.Code.{cell_code, cells_code, judgements_code, response_code, role_code, role_head, row_code, rows_code};
 ghost use Rattle.cn_code.specs.Code.{state_of_a, states_of_a};
 
-use crate::language::{Language, Part};
-use crate::words::{push_number, push_team, push_text, push_word};
+use crate::language::{Form, Language, OwnPart, Part, TournamentPart};
+use crate::words::{push_comma, push_number, push_own, push_team, push_text, push_word};
 use cn_choice::Team;
 use cn_proto::Plan;
 use cn_table::{Response, State};
@@ -21,7 +21,7 @@ pub(crate) fn push_judgements(
     ensures { OnOk result (string_bytes text.new
         ≡ string_bytes text.old ++ judgements_code language plan.now) }
 {
-    push_word(text, language, Part::Judgements)?;
+    push_own(text, language, Form::Tournament, OwnPart::Judgements)?;
     for role in 0..plan.processes() {
         push_role(text, language, plan, role)?;
     }
@@ -36,7 +36,7 @@ fn push_role(text: &mut String, language: Language, plan: &Plan, role: u8) -> Re
 {
     push_role_head(text, language, plan, role)?;
     push_rows(text, language, plan, role)?;
-    push_word(text, language, Part::RoleEnd)
+    push_word(text, language, Part::JudgementEnd)
 }
 
 /// The number of a role, and the name of its operation.
@@ -51,9 +51,19 @@ fn push_role_head(
         ≡ string_bytes text.old ++ role_head language plan.now role) }
 {
     let operation = plan.table().operation_name(plan.operation(role));
-    push_number(text, language, Part::RoleNumber, role)?;
-    push_text(text, language, Part::RoleOperation, operation)?;
-    push_word(text, language, Part::RoleStart)
+    push_number(
+        text,
+        language,
+        Part::InTournament(TournamentPart::RoleNumber),
+        role,
+    )?;
+    push_text(
+        text,
+        language,
+        Part::InTournament(TournamentPart::RoleOperation),
+        operation,
+    )?;
+    push_word(text, language, Part::JudgementStart)
 }
 
 #[tactic(auto, using(cn_table::proofs::Lines::lines_more))]
@@ -81,7 +91,7 @@ fn push_row(
     ensures { OnOk result (string_bytes text.new
         ≡ string_bytes text.old ++ row_code language plan.now role response.0) }
 {
-    push_word(text, language, Part::Row)?;
+    push_own(text, language, Form::Tournament, OwnPart::Row)?;
     push_cells(text, language, plan, role, response)?;
     push_response(text, language, plan, role, response)
 }
@@ -121,16 +131,6 @@ fn push_cell(
     push_team(text, language, plan.judge(role, response, state))
 }
 
-/// A comma before each item but the first.
-fn push_comma(text: &mut String, item: u8) -> Result<(), AllocError>
-    ensures { OnOk result (string_bytes text.new ≡ string_bytes text.old ++ comma item) }
-{
-    match item {
-        0 => Ok(()),
-        _ => text.push_str(", "),
-    }
-}
-
 /// The name of a response, and of the states for which team A was first.
 fn push_response(
     text: &mut String,
@@ -145,7 +145,12 @@ fn push_response(
         ≡ string_bytes text.old ++ response_code language plan.now role response.0) }
 {
     let name = plan.table().response_name(response);
-    push_text(text, language, Part::ResponseName, name)?;
+    push_text(
+        text,
+        language,
+        Part::Own(Form::Tournament, OwnPart::ResponseName),
+        name,
+    )?;
     text.push_str(":")?;
     push_states_of_a(text, plan, role, response)?;
     push_word(text, language, Part::LineEnd)

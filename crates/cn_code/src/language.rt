@@ -1,9 +1,13 @@
 //! The languages of a program, and the words of each.
 ghost use Rattle.std.specs.Prelude.{◌≡◌};
-ghost use Rattle.cn_code.specs.Code.{word};
+ghost use Rattle.cn_code.specs.Frame.{word};
 
 mod c;
+mod c_tournament;
+mod c_tree;
 mod rust;
+mod rust_tournament;
+mod rust_tree;
 
 use crate::language::c::c_word;
 use crate::language::rust::rust_word;
@@ -15,22 +19,37 @@ pub(crate) enum Language {
     C,
 }
 
-/// A text of a language that is the same for every plan. Each stands in the order of the file, and
-/// ends where a text of the plan begins.
+/// Of what a program is.
+#[derive(Clone, Copy)]
+pub(crate) enum Form {
+    /// A plan: a tournament, at whose nodes two teams meet.
+    Tournament,
+    /// A plan tree in which some process looks at an object.
+    LookTree,
+    /// A plan tree in which none does.
+    BlindTree,
+}
+
+/// A text of a language that is the same for every plan. Each ends where a text of the plan, or of
+/// the form, begins. Those of all forms stand here in the order of the file.
 #[derive(Clone, Copy)]
 pub(crate) enum Part {
     /// Up to the number of processes, in the first line.
     Title,
     /// Up to the name of the type.
     TypeName,
+    /// Up to how the processes meet.
+    Intro,
+    /// What holds for all forms, up to the steps of a process.
+    Claims,
+    /// What all forms use of the standard library, up to what one form uses.
+    FirstUses,
+    /// The rest of it.
+    LastUses,
     /// Up to the number of processes.
     Processes,
     /// Up to the number of nodes.
     Nodes,
-    /// Up to the name of the state in which each object starts.
-    Start,
-    /// Up to the number of this state.
-    StartNumber,
     /// Up to the lines of the states.
     States,
     /// Up to the lines of the operations.
@@ -41,45 +60,139 @@ pub(crate) enum Part {
     Name,
     /// Up to its number.
     NameNumber,
-    /// Up to the lines of the places.
+    /// Up to the name of the form.
     Places,
+    /// Up to the lines of the places.
+    PlaceLines,
     /// In the line of a place, up to its process.
     ProcessField,
     /// Up to its node.
     NodeField,
     /// Up to its team.
     TeamField,
-    /// Up to its role.
-    RoleField,
     /// Up to its operation.
     OperationField,
     /// Up to the name of the operation.
     OperationName,
-    /// Up to the judgements.
-    Judgements,
+    /// In a judgement, up to its lines.
+    JudgementStart,
+    /// Behind its lines.
+    JudgementEnd,
+    /// The end of a line.
+    LineEnd,
+    /// A text of the objects, the registers and the algorithm.
+    Program(ProgramPart),
+    /// A text of tournaments alone.
+    InTournament(TournamentPart),
+    /// A text of plan trees alone.
+    InTree(TreePart),
+    /// A text that each form has, and has for itself.
+    Own(Form, OwnPart),
+}
+
+/// A text of the objects, the registers and the algorithm, in the order of the file.
+#[derive(Clone, Copy)]
+pub(crate) enum ProgramPart {
+    /// The object, up to the operation to read.
+    Object,
+    /// Its end.
+    ObjectEnd,
+    /// Up to the name of the form.
+    Node,
+    /// The node, up to the number of its registers.
+    NodeFields,
+    /// Up to the objects that a decision takes.
+    Consensus,
+    /// Up to the registers as they start.
+    New,
+    /// Up to the team as an index.
+    Decide,
+    /// Up to the judgement.
+    Apply,
+    /// Up to the team as an index.
+    Take,
+    /// Up to the end of the file.
+    End,
+}
+
+/// A text of tournaments alone, in the order of the file.
+#[derive(Clone, Copy)]
+pub(crate) enum TournamentPart {
+    /// Up to the name of the state in which each object starts.
+    Start,
+    /// Up to the number of this state.
+    StartNumber,
+    /// In the line of a place, up to its role.
+    RoleField,
     /// In the judgements of a role, up to its number.
     RoleNumber,
     /// Up to the name of its operation.
     RoleOperation,
-    /// Up to the lines of its judgements.
-    RoleStart,
-    /// In the line of a response, up to the teams.
-    Row,
     /// Up to the letter of a team.
     Team,
+}
+
+/// A text of plan trees alone, in the order of the file.
+#[derive(Clone, Copy)]
+pub(crate) enum TreePart {
+    /// Up to the most teams of a node.
+    Teams,
+    /// Up to the most steps of a process.
+    Steps,
+    /// Up to the lines of the start states.
+    Starts,
+    /// In the line of a start state, up to its number.
+    StartState,
+    /// Up to the number of the node.
+    StartNode,
+    /// Up to the name of the state.
+    StartName,
+    /// In the line of a place, up to whether the process looks.
+    LooksField,
+    /// Up to the number of its judgement.
+    JudgementField,
+    /// In a judgement, up to its number.
+    JudgementNumber,
+}
+
+/// A text that each form has for itself, in the order of the file.
+#[derive(Clone, Copy)]
+pub(crate) enum OwnPart {
+    /// How the processes meet.
+    Meet,
+    /// The steps of a process.
+    Bound,
+    /// What the form alone uses of the standard library.
+    Uses,
+    /// The types that stand above the tables.
+    TypesAbove,
+    /// The name of the form.
+    Figure,
+    /// Up to the judgements.
+    Judgements,
+    /// In the line of a response, up to the teams.
+    Row,
     /// Up to the name of the response.
     ResponseName,
-    /// Behind the lines of its judgements.
-    RoleEnd,
-    /// The end of a line.
-    LineEnd,
-    /// The objects, the registers and the algorithm, up to the end of the file.
-    Program,
+    /// The operation to read, if some process does.
+    Read,
+    /// The types that stand below the tables.
+    TypesBelow,
+    /// The number of registers of a node.
+    Registers,
+    /// The objects that a decision takes.
+    Objects,
+    /// The registers of a node, as they start.
+    Zeros,
+    /// Behind a team, so that it is an index.
+    Index,
+    /// From the response to the team that came first.
+    Judge,
 }
 
 impl Language {
     /// The text of the language for a part.
-    #[tactic(auto, unfolding(crate::specs::Code::word))]
+    #[tactic(auto, unfolding(crate::specs::Frame::word))]
     pub(crate) fn word(self, part: Part) -> &'static str
         ensures { result.now ≡ word self part }
     {

@@ -1,6 +1,6 @@
 //! The tables of names.
 ghost use Rattle.std.specs.Prelude.{◌≡◌, ◌<◌, ◌++◌, OnOk, Some, length, slice_get, string_bytes};
-ghost use Rattle.cn_code.specs.Code.{name_line, names_code, names_of, part_of};
+ghost use Rattle.cn_code.specs.Frame.{all_names, name_line, names_code, names_of, part_of};
 
 use crate::language::{Language, Part};
 use crate::words::{push_number, push_text, push_word};
@@ -9,7 +9,7 @@ use std::alloc::AllocError;
 
 /// What of a type has names.
 #[derive(Clone, Copy)]
-pub(crate) enum Kind {
+enum Kind {
     State,
     Operation,
     Response,
@@ -28,9 +28,23 @@ impl Kind {
     }
 }
 
+/// The names of the states, of the operations and of the responses.
+pub(crate) fn push_all_names(
+    text: &mut String,
+    language: Language,
+    table: &Table,
+) -> Result<(), AllocError>
+    ensures { OnOk result (string_bytes text.new
+        ≡ string_bytes text.old ++ all_names language table.now) }
+{
+    push_names(text, language, table, Kind::State)?;
+    push_names(text, language, table, Kind::Operation)?;
+    push_names(text, language, table, Kind::Response)
+}
+
 /// The table of these names, each with its number.
 #[tactic(auto, using(cn_table::proofs::Lines::lines_more))]
-pub(crate) fn push_names(
+fn push_names(
     text: &mut String,
     language: Language,
     table: &Table,

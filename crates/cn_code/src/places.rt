@@ -5,7 +5,8 @@ ghost use Rattle.cn_proto.specs.Protocol.{place_of};
 ghost use Rattle.cn_proto.specs.Sound.{IsPlace};
 ghost use Rattle.cn_code.specs.Code.{act_code, path_code, place_code, places_code, stand_code};
 
-use crate::language::{Language, Part};
+use crate::frame::push_places_word;
+use crate::language::{Form, Language, Part, TournamentPart};
 use crate::words::{push_number, push_team, push_text, push_word};
 use cn_proto::laws::plans_are_sound;
 use cn_proto::{Place, Plan};
@@ -21,7 +22,7 @@ pub(crate) fn push_places(
     ensures { OnOk result (string_bytes text.new
         ≡ string_bytes text.old ++ places_code language plan.now) }
 {
-    push_word(text, language, Part::Places)?;
+    push_places_word(text, language, Form::Tournament)?;
     for process in 0..plan.processes() {
         push_path(text, language, plan, process)?;
     }
@@ -95,7 +96,12 @@ fn push_act(text: &mut String, language: Language, plan: &Plan, role: u8) -> Res
         ≡ string_bytes text.old ++ act_code language plan.now role) }
 {
     let operation = plan.operation(role);
-    push_number(text, language, Part::RoleField, role)?;
+    push_number(
+        text,
+        language,
+        Part::InTournament(TournamentPart::RoleField),
+        role,
+    )?;
     push_number(text, language, Part::OperationField, operation.0)?;
     push_text(
         text,

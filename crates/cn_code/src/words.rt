@@ -1,8 +1,9 @@
 //! Words of a language, with what a plan has between them.
 ghost use Rattle.std.specs.Prelude.{◌≡◌, ◌++◌, OnOk, decimal, string_bytes};
-ghost use Rattle.cn_code.specs.Code.{number_code, team_code, text_code, word};
+ghost use Rattle.cn_code.specs.Code.{team_code};
+ghost use Rattle.cn_code.specs.Frame.{comma, number_code, own_word, program_word, text_code, word};
 
-use crate::language::{Language, Part};
+use crate::language::{Form, Language, OwnPart, Part, ProgramPart, TournamentPart};
 use cn_choice::Team;
 use std::alloc::AllocError;
 
@@ -10,6 +11,31 @@ pub(crate) fn push_word(text: &mut String, language: Language, part: Part) -> Re
     ensures { OnOk result (string_bytes text.new ≡ string_bytes text.old ++ word language part) }
 {
     text.push_str(language.word(part))
+}
+
+/// The text that a form has for itself.
+pub(crate) fn push_own(
+    text: &mut String,
+    language: Language,
+    form: Form,
+    part: OwnPart,
+) -> Result<(), AllocError>
+    ensures { OnOk result (string_bytes text.new
+        ≡ string_bytes text.old ++ own_word language form part) }
+{
+    push_word(text, language, Part::Own(form, part))
+}
+
+/// A text of the objects, the registers and the algorithm.
+pub(crate) fn push_program_word(
+    text: &mut String,
+    language: Language,
+    part: ProgramPart,
+) -> Result<(), AllocError>
+    ensures { OnOk result (string_bytes text.new
+        ≡ string_bytes text.old ++ program_word language part) }
+{
+    push_word(text, language, Part::Program(part))
 }
 
 /// A part, and a number behind it.
@@ -24,6 +50,20 @@ pub(crate) fn push_number(
 {
     push_word(text, language, part)?;
     write!(text, "{number}")
+}
+
+/// A part, and a count behind it.
+pub(crate) fn push_count(
+    text: &mut String,
+    language: Language,
+    part: Part,
+    count: usize,
+) -> Result<(), AllocError>
+    ensures { OnOk result (string_bytes text.new
+        ≡ string_bytes text.old ++ number_code language part count) }
+{
+    push_word(text, language, part)?;
+    write!(text, "{count}")
 }
 
 /// A part, and a text behind it.
@@ -45,5 +85,20 @@ pub(crate) fn push_team(text: &mut String, language: Language, team: Team) -> Re
     ensures { OnOk result (string_bytes text.new
         ≡ string_bytes text.old ++ team_code language team) }
 {
-    push_text(text, language, Part::Team, team.name())
+    push_text(
+        text,
+        language,
+        Part::InTournament(TournamentPart::Team),
+        team.name(),
+    )
+}
+
+/// A comma before each item but the first.
+pub(crate) fn push_comma(text: &mut String, item: u8) -> Result<(), AllocError>
+    ensures { OnOk result (string_bytes text.new ≡ string_bytes text.old ++ comma item) }
+{
+    match item {
+        0 => Ok(()),
+        _ => text.push_str(", "),
+    }
 }

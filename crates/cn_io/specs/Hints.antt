@@ -174,8 +174,8 @@ replay_hint replay.OutOfMemory = None
 
 -- what to do about a fault, if there is something to say
 abbrev pub hint_of : AppFault → Known → Option (List ℕ)
-hint_of fault.Words known = Some (codes
-    "a word is no UTF-8, two texts would both be standard input, or two words exclude each other")
+hint_of fault.Words known = Some (codes "a word is no UTF-8 or missing, "
+    ++ codes "two texts would both be standard input, or two words exclude each other")
 hint_of (fault.Argument a) known = Some (argument_hint a)
 hint_of (fault.Table f) known = table_hint f (option_map (λ s. s.now) known.table) known.is_linted
     (option_map string_bytes known.reason)
@@ -188,6 +188,8 @@ hint_of (fault.UnreadCheck f) known = unread_check_hint f
 hint_of fault.NoWitness known = Some (codes "the number is null, so there is no protocol")
 hint_of fault.NoRecordingWitness known =
     Some (codes "classify --recoverable tells for how many processes there is one")
+hint_of fault.NoPlanTree known =
+    Some (codes "classify tells for how many processes there is one")
 hint_of (fault.Find f) known = find_hint f known.greatest_limit
 hint_of (fault.Schedule f) known = schedule_hint f known.processes
 hint_of (fault.Replay f) known = replay_hint f

@@ -73,6 +73,8 @@ pub enum AppFault {
     NoWitness,
     /// The type has no recording witness for so many processes.
     NoRecordingWitness,
+    /// The type has no plan tree for so many processes.
+    NoPlanTree,
     /// The limit, or the count of choices at the limit, was refused.
     Find(FindFault),
     /// The inputs or the schedule were refused.
@@ -195,6 +197,7 @@ impl AppFault {
             AppFault::Check(_) | AppFault::UnreadCheck(_) => "check: ",
             AppFault::NoWitness => "certificate: no witness",
             AppFault::NoRecordingWitness => "table: no recording witness",
+            AppFault::NoPlanTree => "table: no plan tree",
             AppFault::Find(_) => "find: ",
             AppFault::Schedule(_) => "schedule: ",
             AppFault::Replay(_) => "replay: ",
@@ -220,7 +223,8 @@ impl AppFault {
 
     /// The exit status of the program:
     ///
-    /// - 1: the check refused the certificate or came to no end, or there is no witness;
+    /// - 1: the check refused the certificate or came to no end, or there is no witness or no plan
+    ///   tree;
     /// - 2: a text was refused;
     /// - 3: words, an argument, a limit, a count of choices, a schedule or events were refused;
     /// - 4: reading or writing failed, or a thread could not be started;
@@ -231,7 +235,7 @@ impl AppFault {
     {
         match self.plain() {
             AppFault::Check(_) | AppFault::UnreadCheck(_) | AppFault::NoWitness => 1,
-            AppFault::NoRecordingWitness => 1,
+            AppFault::NoRecordingWitness | AppFault::NoPlanTree => 1,
             AppFault::Table(_) | AppFault::Object(_) => 2,
             AppFault::Certificate(_) | AppFault::UnreadCertificate(_) => 2,
             AppFault::TooLong(_) => 2,

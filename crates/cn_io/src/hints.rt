@@ -239,7 +239,7 @@ impl AppFault {
     {
         match self {
             AppFault::Words => Some(Hint::Says(
-                "a word is no UTF-8, two texts would both be standard input, or two words exclude each other",
+                "a word is no UTF-8 or missing, two texts would both be standard input, or two words exclude each other",
             )),
             AppFault::Argument(argument) => Some(Hint::Says(argument_hint(argument))),
             AppFault::Table(fault) => {
@@ -254,6 +254,9 @@ impl AppFault {
             AppFault::NoWitness => Some(Hint::Says("the number is null, so there is no protocol")),
             AppFault::NoRecordingWitness => Some(Hint::Says(
                 "classify --recoverable tells for how many processes there is one",
+            )),
+            AppFault::NoPlanTree => Some(Hint::Says(
+                "classify tells for how many processes there is one",
             )),
             AppFault::Find(fault) => find_hint(*fault, known.greatest_limit),
             AppFault::Schedule(fault) => schedule_hint(*fault, known.processes),

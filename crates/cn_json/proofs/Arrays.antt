@@ -1,5 +1,5 @@
 -- The tokens of the values of an array.
-use Rattle.std.proofs.Common.{◌≡◌, ℕ, ◌+◌, List, [], ◌∷◌, ◌++◌, append_assoc, append-nil, ap, arith, map, refl, replicate, sym, ◌∙◌}
+use Rattle.std.proofs.Common.{◌≡◌, ℕ, ◌+◌, ◌-◌, ◌≤◌, List, [], ◌∷◌, ◌++◌, append_assoc, append-nil, ap, arith, map, refl, replicate, sym, ◌∙◌}
 use Rattle.std.specs.List.{range_with_len}
 use Rattle.std.proofs.lemmas.List.FromFn.{map-range_with_len_more}
 use Rattle.std.proofs.lemmas.List.{replicate_more}
@@ -36,3 +36,15 @@ pub one_more : (n : ℕ) (d : Data) → each_value (replicate n d) ++ value_toke
 one_more n d =
     ap (λ ts. each_value (replicate n d) ++ ts) (sym (append-nil (value_tokens d)))
     ∙ (sym (each_joined (replicate n d) (d ∷ [])) ∙ ap each_value (replicate_more n d))
+
+-- the same for numbers from one on
+pub each_more_from : (value : ℕ → Data) (before now out : List Token) (a p : ℕ) → a ≤ p → before ≡ out ++ each_value (map value (range_with_len a (p - a))) → now ≡ before ++ value_tokens (value p)
+    → now ≡ out ++ each_value (map value (range_with_len a (p + 1 - a)))
+each_more_from value before now out a p h so_far here =
+    let more = map-range_with_len_more value a (p - a) p (omega (arith, h)) in
+    let next : p + 1 - a ≡ p - a + 1 = omega (arith, h) in
+    here
+    ∙ (ap (λ ts. ts ++ value_tokens (value p)) so_far
+    ∙ (append_assoc out (each_value (map value (range_with_len a (p - a)))) (value_tokens (value p))
+    ∙ ap (λ ts. out ++ ts) (ap (λ ts. each_value (map value (range_with_len a (p - a))) ++ ts) (sym (append-nil (value_tokens (value p))))
+    ∙ (sym (each_joined (map value (range_with_len a (p - a))) (value p ∷ [])) ∙ ap each_value (sym (rw next more))))))

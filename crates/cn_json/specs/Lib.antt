@@ -17,3 +17,5 @@ pub mod Explanation
 pub mod Recoverable
 pub mod UnreadWitness
 pub mod Unread
+pub mod TreeCourses
+pub mod TreePlans

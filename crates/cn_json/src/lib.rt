@@ -5,8 +5,9 @@
 //! certificate, [`flaws_json`] the flaws of the text of a table, [`course_json`] the decisions and
 //! the steps of processes, [`log_json`] and [`service_json`] what happened in a log,
 //! [`explanation_json`], [`recoverable_explanation_json`] and [`unread_explanation_json`] why a
-//! number is what it is, [`pairs_json`] the numbers of operations and of their pairs, and
-//! [`plan_json`] a plan. Each text is that of a JSON value, which is a function of the answer.
+//! number is what it is, [`pairs_json`] the numbers of operations and of their pairs,
+//! [`plan_json`] a plan, [`tree_plan_json`] a plan tree, and [`tree_course_json`] a run along one.
+//! Each text is that of a JSON value, which is a function of the answer.
 //!
 //! ```text
 //! println!(rt; "{}", verdict_json(alloc, check(&table, &certificate))?)?;
@@ -28,6 +29,8 @@ mod numbers;
 mod pairs;
 mod plan;
 mod recoverable;
+mod tree_course;
+mod tree_plan;
 mod unread;
 mod unread_witness;
 mod value;
@@ -44,5 +47,7 @@ pub use numbers::{Classification, classification_json};
 pub use pairs::pairs_json;
 pub use plan::plan_json;
 pub use recoverable::recoverable_explanation_json;
+pub use tree_course::tree_course_json;
+pub use tree_plan::tree_plan_json;
 pub use unread::unread_explanation_json;
 pub use verdict::{refusal_json, unread_json, verdict_json};

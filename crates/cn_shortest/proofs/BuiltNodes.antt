@@ -1,29 +1,29 @@
 -- Teams and the meetings of their nodes, at the load of a search.
-use Rattle.std.proofs.Common.{ℕ, ◌≡◌, ◌+◌, ◌-◌, ◌*◌, ◌<◌, ◌≤◌, Bool, true, false, true≢false, List, [], ◌∷◌, ◌++◌, length, append_assoc, refl, sym, ap, ◌∙◌, subst, arith, Option, Some, None, IsSome}
+use Rattle.std.proofs.Common.{ℕ, ◌≡◌, ◌+◌, ◌-◌, ◌*◌, ◌<◌, ◌≤◌, true, false, true≢false, List, [], ◌∷◌, ◌++◌, length, append_assoc, refl, sym, ap, ◌∙◌, subst, arith, Option, Some, None, IsSome}
 use Rattle.std.specs.Prelude.{All, sum}
 use Rattle.std.proofs.lemmas.List.{append-nil}
 use Rattle.std.proofs.lemmas.List.Elements.{All-head, All-tail, All-weaker}
 use Rattle.cn_table.specs.TypeTable.{TypeTable}
 use Rattle.cn_meetings.specs.Meeting.{Sight}
-use Rattle.cn_tree_costs.specs.Least.{Load, LoadTable, load_of_root, load_of_teams, plus}
+use Rattle.cn_tree_costs.specs.Least.{Load, LoadTable, load_of_teams, plus}
 use Rattle.cn_tree_costs.specs.Sizes.{price}
 use Rattle.cn_tree_costs.specs.Sizes as teams
 use Rattle.cn_tree_plans.specs.Plan.{NodeMeeting}
 use Rattle.cn_tree_plans.proofs.PlanLemmas.{sizes_sum}
-use Rattle.cn_trees.specs.Tree.{Teams, members, nodes_in}
+use Rattle.cn_trees.specs.Tree.{Teams, members}
 use Rattle.cn_trees.specs.Tree.Teams.{Alone, Last, Meet}
 use Rattle.cn_shortest.specs.Built.{AddsNode, AddsTeams}
 use Rattle.cn_shortest.specs.Examples.{IsExample}
-use Rattle.cn_shortest.specs.Loads.{root_with, table_of}
+use Rattle.cn_shortest.specs.Loads.{table_of}
 use Rattle.cn_shortest.specs.Nodes.{AreNodes, IsNode, price_in, sight_in}
-use Rattle.cn_shortest.specs.Searches.{HaveExamples, IsRootOf}
+use Rattle.cn_shortest.specs.Searches.{IsRootOf}
 use Rattle.cn_shortest.specs.Sights.{sight_of}
 use Rattle.cn_shortest.specs.Sizes.{AreOf, sizes_of}
 use Rattle.cn_shortest.specs.declared.choosing.Choice.{Choice}
 use Rattle.cn_shortest.specs.declared.roots.Roots.{Roots}
 use Rattle.cn_shortest.specs.declared.search.Search.{Search}
-use Rattle.cn_shortest.proofs.Loading.{nodes_or, parts_of, sum_or}
-use Rattle.cn_shortest.proofs.Numbers.{fewer_each, long_sum}
+use Rattle.cn_tree_costs.proofs.Loads.{nodes_or, plus_some, sum_or}
+use Rattle.cn_tree_costs.proofs.Numbers.{fewer_each, long_sum}
 
 -- ---- loads that there are
 pub load_there : (o : Option Load) → IsSome o → (x : Load) × (o ≡ Some x)
@@ -55,7 +55,7 @@ module _ (roots : List Roots) (best : LoadTable) (b : ℕ) where
   pub one_built : (sizes : List ℕ) (x : Load) (r : Teams) (old new : List NodeMeeting) → best 1 b ≡ Some (record { nodes = 0; sum = 0 }) → load_of_teams best b (1 ∷ sizes) ≡ Some x
       → ((y : Load) → load_of_teams best b sizes ≡ Some y → AddsTeams roots b sizes y r old new) → AddsTeams roots b (1 ∷ sizes) x (Alone r) old new
   one_built sizes x r old new none e others =
-      let p = parts_of (best 1 b) (load_of_teams best b sizes) x e in
+      let p = plus_some (best 1 b) (load_of_teams best b sizes) x e in
       let rest = others p.y p.rest in
       let no_nodes : 0 ≡ p.x.nodes = ap nodes_or (sym none ∙ p.first) in
       let no_steps : 0 ≡ p.x.sum = ap sum_or (sym none ∙ p.first) in
@@ -74,7 +74,7 @@ module _ (roots : List Roots) (best : LoadTable) (b : ℕ) where
       → ((y : Load) → best n b ≡ Some y → AddsNode roots n b y s old mid) → ((y : Load) → load_of_teams best b sizes ≡ Some y → AddsTeams roots b sizes y r mid new)
       → AddsTeams roots b (n ∷ sizes) x (Meet s r) old new
   some_built n sizes x s r old mid new e first others =
-      let p = parts_of (best n b) (load_of_teams best b sizes) x e in
+      let p = plus_some (best n b) (load_of_teams best b sizes) x e in
       let one = first p.x p.first in
       let rest = others p.y p.rest in (
         one.0 ++ rest.0,
@@ -148,7 +148,7 @@ module _ (s : Search) (n b : ℕ) (choice : Choice) (root : IsRootOf s n b choic
       → ((y : Load) → below ≡ Some y → AddsTeams s.roots.items (b - price k) sizes y u mid new) → AddsNode s.roots.items n b x u old new
   node_built x m u old mid new e is looks node others =
       let first : Load = record { nodes = 1; sum = n * price k } in
-      let p = parts_of (Some first) below x (root.load ∙ e) in
+      let p = plus_some (Some first) below x (root.load ∙ e) in
       let rest = others p.y p.rest in
       let one : 1 ≡ p.x.nodes = ap nodes_or p.first in
       let cost : n * price k ≡ p.x.sum = ap sum_or p.first in

@@ -20,8 +20,8 @@ use Rattle.cn_shortest.specs.Roots.{AreWithin}
 use Rattle.cn_shortest.specs.Sizes.{AreCounts}
 use Rattle.cn_shortest.proofs.Dividing.{same_factor, sum_at}
 use Rattle.cn_shortest.proofs.Moves.{along, more_within, moved_along, within_along}
-use Rattle.cn_shortest.proofs.Numbers.{long_sum, sum_cons}
-use Rattle.cn_shortest.proofs.TeamCounts.{block_low, block_second, block_size, counts_at, counts_long, counts_of, number, number_of_list, size_same, total_same}
+use Rattle.cn_tree_costs.proofs.Numbers.{long_sum, sum_cons, total_same}
+use Rattle.cn_shortest.proofs.TeamCounts.{block_low, block_second, block_size, counts_at, counts_long, counts_of, number, number_of_list, size_same}
 
 -- ---- processes of two teams
 pub two_teams : (n : ℕ) (sizes : List ℕ) → IsDivision n sizes → (y : ℕ) × (z : ℕ) × (y < n) × (z < n) × (block sizes y ≢ block sizes z)

@@ -20,7 +20,7 @@ use Rattle.cn_stocks.specs.Words.{HaveSame, times}
 use Rattle.cn_stocks.proofs.Times.{one, one_of, one_some, same_or, times_append, times_cons, times_none, times_of_place}
 use Rattle.cn_table.specs.TypeTable.{TypeTable}
 use Rattle.cn_tree_costs.specs.Sizes.{HasSizes, IsDivision, team_size, team_sizes}
-use Rattle.cn_shortest.proofs.Numbers.{sum_cons}
+use Rattle.cn_tree_costs.proofs.Numbers.{sum_cons}
 use Rattle.cn_shortest.proofs.Permuted.{shuffled}
 
 pub same_factor : (s x y : ℕ) → 1 ≤ s → s * x ≡ s * y → x ≡ y

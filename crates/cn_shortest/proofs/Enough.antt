@@ -23,7 +23,7 @@ use Rattle.cn_shortest.specs.declared.sizes.Sizes.{Sizes}
 use Rattle.cn_shortest.proofs.Coarser.{reached, two_teams}
 use Rattle.cn_shortest.proofs.Elements.{all_at, contains_before, contains_later, element_at, mapped_at}
 use Rattle.cn_shortest.proofs.Merging.{counted_same}
-use Rattle.cn_shortest.proofs.Numbers.{two_or_more}
+use Rattle.cn_tree_costs.proofs.Numbers.{two_or_more}
 use Rattle.cn_shortest.proofs.Sound.{AreRootsOf, roots_sound}
 
 module _ (t : TypeTable) (sight : Sight) (n : ℕ) (divisions : List Division) (list : List Sizes) (sizes : List ℕ) (few : n ≤ 8) (all : AreAllSizes t sight n divisions) (are : AreSizesOf n divisions list)

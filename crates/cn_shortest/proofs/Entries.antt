@@ -4,7 +4,7 @@ use Rattle.cn_tree_costs.specs.Least.{LoadTable, Root}
 use Rattle.cn_shortest.specs.Loads.{IsEntry, IsLessOf, load_of}
 use Rattle.cn_shortest.specs.declared.loads.Load.{Load}
 use Rattle.cn_shortest.proofs.Elements.{contains_before, contains_either, contains_later}
-use Rattle.cn_shortest.proofs.Lesser.{at_most_trans}
+use Rattle.cn_tree_costs.proofs.Loads.{at_most_trans}
 
 pub both_entries : (best : LoadTable) (n b : ℕ) (xs ys : List Root) (x y r : Option Load) → IsEntry best n b xs x → IsEntry best n b ys y → IsLessOf x y r → IsEntry best n b (xs ++ ys) r
 both_entries best n b xs ys x y r first second less = record {

@@ -25,7 +25,8 @@ use Rattle.cn_shortest.specs.declared.examples.Example.{Example}
 use Rattle.cn_shortest.proofs.Coarser.{number_found}
 use Rattle.cn_shortest.proofs.Moves.{balance, moved_not, moved_there}
 use Rattle.cn_shortest.proofs.Permuted.{both_cons}
-use Rattle.cn_shortest.proofs.TeamCounts.{number, size_same, total_same}
+use Rattle.cn_shortest.proofs.TeamCounts.{number, size_same}
+use Rattle.cn_tree_costs.proofs.Numbers.{total_same}
 
 -- ---- teams of some size
 no_total : (P : ℕ → ℕ) (k : ℕ) → ((g : ℕ) → g < k → P g ≡ 0) → total P k ≡ 0

@@ -5,19 +5,13 @@ use Rattle.cn_tree_costs.specs.Least as least
 use Rattle.cn_tree_costs.specs.Least.{IsAtMost}
 use Rattle.cn_shortest.specs.Loads.{IsLessOf, IsNoMore, load_of}
 use Rattle.cn_shortest.specs.declared.loads.Load.{Load}
-use Rattle.cn_shortest.proofs.Loading.{nodes_or, sum_or}
+use Rattle.cn_tree_costs.proofs.Loads.{at_most_trans, nodes_or, sum_or}
 
 abbrev pub plain : Load → least.Load
 plain x = record { nodes = x.nodes; sum = x.sum }
 
 pub at_most_self : (x : least.Load) → IsAtMost x x
 at_most_self x = inr (refl, omega arith)
-
-pub at_most_trans : (x y z : least.Load) → IsAtMost x y → IsAtMost y z → IsAtMost x z
-at_most_trans x y z (inl h) (inl k) = inl (omega (arith, h, k))
-at_most_trans x y z (inl h) (inr k) = inl (let a = k.0 in omega (arith, h, a))
-at_most_trans x y z (inr h) (inl k) = inl (let a = h.0 in omega (arith, k, a))
-at_most_trans x y z (inr h) (inr k) = inr ((let a = h.0 in let b = k.0 in omega (arith, a, b)), (let a = h.1 in let b = k.1 in omega (arith, a, b)))
 
 pub at_most_or : (x y : least.Load) → IsAtMost x y ⊎ IsAtMost y x
 at_most_or x y = elim (cases_lt x.nodes y.nodes) [

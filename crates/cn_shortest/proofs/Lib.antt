@@ -12,7 +12,6 @@ pub mod Loading
 pub mod Merging
 pub mod Moves
 pub mod Nodes
-pub mod Numbers
 pub mod OrderedNodes
 pub mod OrderedTeams
 pub mod Passing
@@ -21,6 +20,5 @@ pub mod Plans
 pub mod Rows
 pub mod Searching
 pub mod Sound
-pub mod Steps
 pub mod TeamCounts
 pub mod Trees

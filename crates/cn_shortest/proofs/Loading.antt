@@ -5,18 +5,11 @@ use Rattle.std.proofs.lemmas.List.Elements.{All-head, All-tail}
 use Rattle.cn_tree_costs.specs.Least as least
 use Rattle.cn_tree_costs.specs.Least.{IsAtMost, LoadTable, Root, load_of_root, load_of_teams, plus}
 use Rattle.cn_tree_costs.specs.Sizes.{IsDivision, price}
-use Rattle.cn_shortest.proofs.Numbers.{fewer_each, price_few, sum_cons}
+use Rattle.cn_tree_costs.proofs.Loads.{nodes_or, plus_some, sum_or}
+use Rattle.cn_tree_costs.proofs.Numbers.{fewer_each, price_few, sum_cons}
 use Rattle.cn_shortest.specs.Loads.{IsBelow, IsSmallTable, load_of}
 use Rattle.cn_shortest.specs.Sizes.{AreOf, sizes_from, sizes_of}
 use Rattle.cn_shortest.specs.declared.loads.Load.{Load}
-
-abbrev pub nodes_or : Option least.Load → ℕ
-nodes_or None = 0
-nodes_or (Some x) = x.nodes
-
-abbrev pub sum_or : Option least.Load → ℕ
-sum_or None = 0
-sum_or (Some x) = x.sum
 
 pub plus_below : (a b c d : ℕ) (x y r : Option Load) → load_of r ≡ plus (load_of x) (load_of y) → IsBelow a b x → IsBelow c d y → IsBelow (a + c) (b + d) r
 plus_below a b c d x y None e p q = tt
@@ -36,25 +29,12 @@ pub team_below : (n : ℕ) (team : Option Load) → n ≤ 8 → ((x : least.Load
 team_below n None l small = tt
 team_below n (Some x) l small = let h = small _ refl in let h0 = h.0 in let h1 = h.1 in (omega (arith, l, h0), omega (arith, l, h0, h1))
 
-pub record Parts (a b : Option least.Load) (z : least.Load) : Type 0 where
-  pub x : least.Load
-  pub y : least.Load
-  pub first : a ≡ Some x
-  pub rest : b ≡ Some y
-  pub nodes_are : z.nodes ≡ x.nodes + y.nodes
-  pub sum_is : z.sum ≡ x.sum + y.sum
-
-pub parts_of : (a b : Option least.Load) (z : least.Load) → plus a b ≡ Some z → Parts a b z
-parts_of None b z e = absurd cc
-parts_of (Some x) None z e = absurd cc
-parts_of (Some x) (Some y) z e = record { x = x; y = y; first = refl; rest = refl; nodes_are = sym (ap nodes_or e); sum_is = sym (ap sum_or e) }
-
 -- teams have fewer objects than processes
 pub few_nodes : (best : LoadTable) (b : ℕ) (sizes : List ℕ) (x : least.Load) → IsSmallTable best → All (λ m. 1 ≤ m) sizes → load_of_teams best b sizes ≡ Some x → (x.nodes + length sizes ≤ sum sizes) × (x.sum ≤ 32 * x.nodes)
 few_nodes best b [] x small some e =
     let n : 0 ≡ x.nodes = ap nodes_or e in let s : 0 ≡ x.sum = ap sum_or e in (omega (arith, n), omega (arith, s))
 few_nodes best b (m ∷ sizes) x small some e =
-    let p = parts_of (best m b) (load_of_teams best b sizes) x e in
+    let p = plus_some (best m b) (load_of_teams best b sizes) x e in
     let one : 1 ≤ m = All-head (λ q. 1 ≤ q) m sizes some in
     let h = small m b p.x one p.first in
     let r = few_nodes best b sizes p.y small (All-tail (λ q. 1 ≤ q) m sizes some) p.rest in
@@ -66,7 +46,7 @@ pub root_small : (best : LoadTable) (n b : ℕ) (root : Root) (x : least.Load) �
 root_small best n b root x few small division e =
     let k = root.sight in
     let first : least.Load = record { nodes = 1; sum = n * price k } in
-    let p = parts_of (Some first) (load_of_teams best (b - price k) root.sizes) x e in
+    let p = plus_some (Some first) (load_of_teams best (b - price k) root.sizes) x e in
     let r = few_nodes best (b - price k) root.sizes p.y small division.inhabited p.rest in
     let one : 1 ≡ p.x.nodes = ap nodes_or p.first in
     let cost : n * price k ≡ p.x.sum = ap sum_or p.first in

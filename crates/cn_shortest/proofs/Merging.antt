@@ -16,7 +16,7 @@ use Rattle.cn_divisions.proofs.Counting.{times_long}
 use Rattle.cn_shortest.specs.Sizes.{AreCounts, AreMerged, AreOf, HasBoth, sizes_of}
 use Rattle.cn_shortest.specs.declared.sizes.Sizes.{Sizes}
 use Rattle.cn_shortest.proofs.Elements.{below_or_last}
-use Rattle.cn_shortest.proofs.Numbers.{fewer_each, long_sum, sum_cons}
+use Rattle.cn_tree_costs.proofs.Numbers.{fewer_each, long_sum, sum_cons}
 use Rattle.cn_shortest.proofs.Permuted.{counts_same, merged_is, same_length, shuffled, times_in}
 
 pub record MergedTo (n : ℕ) (sizes : Sizes) (old new : List Sizes) (a b : ℕ) : Type 0 where

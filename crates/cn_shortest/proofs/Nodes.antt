@@ -14,8 +14,8 @@ use Rattle.cn_tree_costs.specs.Sizes.{sizes_of}
 use Rattle.cn_tree_plans.specs.Plan.{NodeMeeting, no_meeting}
 use Rattle.cn_tree_plans.specs.Teams.{AreSeveralBelow}
 use Rattle.cn_shortest.specs.Nodes.{AreNodes, IsNode, price_in}
-use Rattle.cn_shortest.proofs.Steps.{total_under, under, under_first, under_later}
-use Rattle.cn_shortest.proofs.TeamCounts.{total_front}
+use Rattle.cn_tree_costs.proofs.Steps.{total_under, under, under_first, under_later}
+use Rattle.cn_tree_costs.proofs.Numbers.{total_first}
 
 abbrev pub at : List NodeMeeting → ℕ → NodeMeeting
 at meetings v = slice_index_or meetings v no_meeting
@@ -100,7 +100,7 @@ module _ (t : TypeTable) where
     steps_sum b next Last ms steps are is = sym are.1
     steps_sum b next (Alone r) ms steps are is =
         let e : 1 + members r ≡ suc (members r) = omega arith in
-        omega (arith, ap (total (under prices (Alone r) next)) e, total_front (under prices (Alone r) next) (members r), steps_sum b next r ms steps are is)
+        omega (arith, ap (total (under prices (Alone r) next)) e, total_first (under prices (Alone r) next) (members r), steps_sum b next r ms steps are is)
     steps_sum b next (Meet s r) ms steps (m, xs, ys, x, y, split, sum_is, node, within, first, rest) is =
         let long = nodes_long (b - price_in m) s xs x first in
         omega (

@@ -1,5 +1,5 @@
 -- The plan of the teams and the meetings that were built is a least one.
-use Rattle.std.proofs.Common.{ℕ, ◌≡◌, ◌+◌, ◌≤◌, ◌↔◌, List, [], ◌++◌, length, refl, sym, ap, ◌∙◌, subst, Option, Some, None, IsSome, IfSome}
+use Rattle.std.proofs.Common.{ℕ, ◌≡◌, ◌+◌, List, [], ◌++◌, length, refl, sym, ap, ◌∙◌, subst, Option, Some, None}
 use Rattle.cn_table.specs.TypeTable.{TypeTable}
 use Rattle.cn_tree_costs.specs.Cost.{IsLeastPlan, IsTreeFor, cost}
 use Rattle.cn_tree_costs.specs.Least.{Load}

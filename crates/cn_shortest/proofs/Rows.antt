@@ -16,7 +16,8 @@ use Rattle.cn_shortest.specs.declared.loads.Load.{Load}
 use Rattle.cn_shortest.specs.declared.loads.Row.{Row}
 use Rattle.cn_shortest.specs.declared.roots.Roots.{Roots}
 use Rattle.cn_shortest.proofs.Elements.{all_at, contains_either, contains_mapped}
-use Rattle.cn_shortest.proofs.Loading.{nodes_or, root_small, same_root, sum_or}
+use Rattle.cn_shortest.proofs.Loading.{root_small, same_root}
+use Rattle.cn_tree_costs.proofs.Loads.{nodes_or, sum_or}
 
 pub read : (loads : List (Option Load)) (b : ℕ) → load_in (slice_get loads b) ≡ load_of (get_or loads b None)
 read [] b = refl

@@ -1,5 +1,5 @@
 -- The root that a search chooses.
-use Rattle.std.proofs.Common.{ℕ, zero, suc, ◌≡◌, ◌+◌, ◌-◌, ◌<◌, ◌≤◌, inl, inr, List, ◌++◌, drop, length, take, refl, sym, ap, ◌∙◌, subst, arith, Option, Some, None, IsSome}
+use Rattle.std.proofs.Common.{ℕ, zero, suc, ◌≡◌, ◌+◌, ◌-◌, ◌<◌, ◌≤◌, inl, inr, List, drop, length, take, sym, ap, ◌∙◌, subst, arith, Option, Some}
 use Rattle.std.specs.Prelude.{All, Contains, slice_get}
 use Rattle.std.proofs.lemmas.Bool.{cases_lt}
 use Rattle.std.proofs.lemmas.List.{length-take-le, take-append-drop}
@@ -8,13 +8,12 @@ use Rattle.cn_stocks.proofs.StockLemmas.{get_before}
 use Rattle.cn_table.specs.TypeTable.{TypeTable}
 use Rattle.cn_tree_costs.specs.Least as least
 use Rattle.cn_tree_costs.specs.Least.{Root, load_of_root}
-use Rattle.cn_tree_costs.specs.Sizes.{price}
 use Rattle.cn_shortest.specs.Choosing.{IsChoice, sizes_by}
 use Rattle.cn_shortest.specs.Loads.{AreAllOf, IsLoadOf, IsSmallTable, all_roots, load_at, root_with, roots_at, roots_in, table_of}
 use Rattle.cn_shortest.specs.Roots.{AreFound, IsFound}
-use Rattle.cn_shortest.specs.Searches.{HaveExamples, IsRootOf, IsSearch}
+use Rattle.cn_shortest.specs.Searches.{IsRootOf, IsSearch}
 use Rattle.cn_shortest.specs.Sights.{sight_of}
-use Rattle.cn_shortest.specs.Sizes.{AreOf, sizes_of}
+use Rattle.cn_shortest.specs.Sizes.{AreOf}
 use Rattle.cn_shortest.specs.declared.choosing.Choice.{Choice}
 use Rattle.cn_shortest.specs.declared.loads.Row.{Row}
 use Rattle.cn_shortest.specs.declared.roots.Roots.{Roots}

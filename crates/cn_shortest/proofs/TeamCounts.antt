@@ -10,13 +10,9 @@ use Rattle.cn_stocks.specs.Words.{times}
 use Rattle.cn_stocks.proofs.Times.{one, one_else, one_of, same_or, times_cons}
 use Rattle.cn_tree_costs.specs.Cost.{total}
 use Rattle.cn_tree_costs.specs.Sizes.{block, team_size}
-use Rattle.cn_shortest.proofs.Numbers.{sum_cons}
+use Rattle.cn_tree_costs.proofs.Numbers.{block_out, sum_cons, total_first, total_same}
 
 -- ---- sums of the first values
-pub total_same : (P Q : ℕ → ℕ) (k : ℕ) → ((g : ℕ) → g < k → P g ≡ Q g) → total P k ≡ total Q k
-total_same P Q zero same = refl
-total_same P Q (suc k) same = omega (arith, total_same P Q k (λ g l. same g (omega (arith, l))), same k (omega arith))
-
 total_place : (P Q : ℕ → ℕ) (u k : ℕ) → u < k → ((g : ℕ) → g ≢ u → P g ≡ Q g) → total P k + Q u ≡ total Q k + P u
 total_place P Q u zero l same = absurd (omega (arith, l))
 total_place P Q u (suc k) l same = elim (same_or k u) [
@@ -46,10 +42,6 @@ total_two P Q u v k lu lv ne same =
       | inr m ↦ other g m ∙ same g m n
     ]
 
-pub total_front : (P : ℕ → ℕ) (k : ℕ) → total P (suc k) ≡ P 0 + total (λ g. P (suc g)) k
-total_front P zero = omega arith
-total_front P (suc k) = omega (arith, total_front P k)
-
 total_none : (P : ℕ → ℕ) (k : ℕ) → ((g : ℕ) → P g ≡ 0) → total P k ≡ 0
 total_none P zero none = refl
 total_none P (suc k) none = omega (arith, total_none P k none, none k)
@@ -73,14 +65,11 @@ no_later m sizes (suc p) j l =
     let e : block (m ∷ sizes) p ≡ 0 = ap (λ b. cond b 0 (suc (block sizes (p - m)))) y in
     omega (arith, no_later m sizes p j (omega (arith, l)), one_else (suc j) (block (m ∷ sizes) p) (λ f. omega (arith, f, e)))
 
-behind : (m : ℕ) (sizes : List ℕ) (p : ℕ) → m ≤ p → block (m ∷ sizes) p ≡ suc (block sizes (p - m))
-behind m sizes p l = (let y : nat_lt p m ≡ false = grind (arith, nat_tests) in ap (λ b. cond b 0 (suc (block sizes (p - m)))) y)
-
 size_first : (m : ℕ) (sizes : List ℕ) (n : ℕ) → m ≤ n → team_size (block (m ∷ sizes)) n 0 ≡ m
 size_first m sizes zero l = omega (arith, l)
 size_first m sizes (suc n) l = elim (cases_lt n m) [
   | inl u ↦ (let e : suc n ≡ m = omega (arith, u, l) in size_low m sizes (suc n) (omega (arith, u)) ∙ e)
-  | inr u ↦ omega (arith, size_first m sizes n (omega (arith, u)), one_else 0 (block (m ∷ sizes) n) (λ f. omega (arith, f, behind m sizes n (omega (arith, u)))))
+  | inr u ↦ omega (arith, size_first m sizes n (omega (arith, u)), one_else 0 (block (m ∷ sizes) n) (λ f. omega (arith, f, block_out m n sizes (omega (arith, u)))))
 ]
 
 one_later : (j x y : ℕ) → x ≡ suc y → one (suc j) x ≡ one j y
@@ -95,7 +84,7 @@ size_later m sizes (suc n) j l = elim (cases_lt n m) [
   | inl u ↦ (let e : suc n - m ≡ 0 = omega (arith, u) in no_later m sizes (suc n) j (omega (arith, u)) ∙ sym (ap (λ i. team_size (block sizes) i j) e))
   | inr u ↦ (
       let e : suc n - m ≡ suc (n - m) = omega (arith, u) in
-      let more : team_size (block (m ∷ sizes)) (suc n) (suc j) ≡ team_size (block sizes) (suc (n - m)) j = omega (arith, size_later m sizes n j (omega (arith, u)), one_later j (block (m ∷ sizes) n) (block sizes (n - m)) (behind m sizes n (omega (arith, u)))) in
+      let more : team_size (block (m ∷ sizes)) (suc n) (suc j) ≡ team_size (block sizes) (suc (n - m)) j = omega (arith, size_later m sizes n j (omega (arith, u)), one_later j (block (m ∷ sizes) n) (block sizes (n - m)) (block_out m n sizes (omega (arith, u)))) in
       more ∙ sym (ap (λ i. team_size (block sizes) i j) e)
       )
 ]
@@ -111,14 +100,14 @@ pub block_low : (sizes : List ℕ) (p : ℕ) → All (λ m. 1 ≤ m) sizes → b
 block_low [] p each = omega arith
 block_low (m ∷ sizes) p each = elim (cases_lt p m) [
   | inl l ↦ (let y : nat_lt p m ≡ true = grind (arith, nat_tests) in omega (arith, ap (λ b. cond b 0 (suc (block sizes (p - m)))) y))
-  | inr l ↦ omega (arith, l, behind m sizes p (omega (arith, l)), block_low sizes (p - m) (All-tail (λ x. 1 ≤ x) m sizes each), All-head (λ x. 1 ≤ x) m sizes each)
+  | inr l ↦ omega (arith, l, block_out m p sizes (omega (arith, l)), block_low sizes (p - m) (All-tail (λ x. 1 ≤ x) m sizes each), All-head (λ x. 1 ≤ x) m sizes each)
 ]
 
 -- the first process of the second team
 pub block_second : (m x : ℕ) (sizes : List ℕ) → 1 ≤ m → 1 ≤ x → block (m ∷ (x ∷ sizes)) 0 ≢ block (m ∷ (x ∷ sizes)) m
 block_second m x sizes lm lx e =
     let y : nat_lt 0 m ≡ true = grind (arith, nat_tests) in
-    omega (arith, e, ap (λ b. cond b 0 (suc (block (x ∷ sizes) (0 - m)))) y, behind m (x ∷ sizes) m (omega arith))
+    omega (arith, e, ap (λ b. cond b 0 (suc (block (x ∷ sizes) (0 - m)))) y, block_out m m (x ∷ sizes) (omega arith))
 
 -- ---- how many teams have a size
 abbrev pub number : ℕ → ℕ → (ℕ → ℕ) → ℕ → ℕ
@@ -143,4 +132,4 @@ pub number_of_list : (sizes : List ℕ) (k x : ℕ) → length sizes ≤ k → t
 number_of_list [] k x l = total_none (λ g. one (suc x) (get_or [] g 0)) k (λ g. one_else (suc x) 0 (λ e. omega (arith, e)))
 number_of_list (m ∷ sizes) zero x l = absurd (omega (arith, l))
 number_of_list (m ∷ sizes) (suc k) x l =
-    omega (arith, total_front (λ g. one (suc x) (get_or (m ∷ sizes) g 0)) k, number_of_list sizes k x (omega (arith, l)), times_cons (suc x) m sizes)
+    omega (arith, total_first (λ g. one (suc x) (get_or (m ∷ sizes) g 0)) k, number_of_list sizes k x (omega (arith, l)), times_cons (suc x) m sizes)

@@ -20,8 +20,8 @@ use Rattle.cn_trees.specs.Consensus.{steps_of}
 use Rattle.cn_trees.specs.Tree.{PlanTree, Teams, comes_to, members, nodes_in, processes_of, team_in}
 use Rattle.cn_shortest.specs.Nodes.{AreTreeNodes, IsNode, IsTreeAt, price_in, sight_in}
 use Rattle.cn_shortest.proofs.Nodes.{at, node_is, nodes_long, several_below, steps_sum, steps_within}
-use Rattle.cn_shortest.proofs.Steps.{greatest_within, steps_are, total_plus, under}
-use Rattle.cn_shortest.proofs.TeamCounts.{total_same}
+use Rattle.cn_tree_costs.proofs.Steps.{steps_are, under}
+use Rattle.cn_tree_costs.proofs.Numbers.{greatest_within, total_plus, total_same}
 
 module _ (t : TypeTable) (b : ℕ) (s : Teams) (ms : List NodeMeeting) (steps : ℕ) (are : AreTreeNodes t b s ms steps) where
   below_long : length are.below ≡ nodes_in s

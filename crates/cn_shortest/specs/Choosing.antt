@@ -1,5 +1,5 @@
 -- Roots with the least load.
-use Rattle.std.specs.Prelude.{ℕ, ◌≡◌, ◌≢◌, ◌≤◌, List, Some, slice_get}
+use Rattle.std.specs.Prelude.{ℕ, ◌≡◌, ◌≤◌, List, Some, slice_get}
 use Rattle.cn_meetings.specs.Meeting.{Sight}
 use Rattle.cn_tree_costs.specs.Least.{Load, LoadTable, load_of_root}
 use Rattle.cn_tree_costs.specs.Sizes.{price}

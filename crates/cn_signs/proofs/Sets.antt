@@ -1,5 +1,5 @@
 -- Sets of numbers, and numbers that are sets.
-use Rattle.std.proofs.Common.{◌≡◌, ℕ, ◌+◌, ◌-◌, ◌^◌, ◌<◌, ◌≤◌, ◌⊎◌, ◌↔◌, inl, inr, refl, sym, subst, ◌∙◌, arith, bit_and, bit_or, Bool, true, false, true≢false, not, nat_eq}
+use Rattle.std.proofs.Common.{◌≡◌, ℕ, ◌-◌, ◌^◌, ◌<◌, ◌≤◌, ◌↔◌, inl, inr, refl, sym, subst, ◌∙◌, arith, bit_and, bit_or, Bool, true, false, true≢false, not, nat_eq}
 use Rattle.std.specs.Int.{bit_at}
 use Rattle.std.specs.Prelude.{IsBitSet}
 use Rattle.std.proofs.lemmas.Bool.{cases_lt, eqb-true, eq-eqb, false_from_ne_true}
@@ -45,28 +45,3 @@ rest_below left gone rest within less some = elim (cases_lt rest left) [
 -- a set of numbers below 16 is below 65536
 pub small : (set : ℕ) → ((q : ℕ) → IsBitSet set q → q < 16) → set < 65536
 small set below = let most : set ≤ 2 ^ 16 - 1 = part_below set (2 ^ 16 - 1) (λ q h. (all_set q).1 (below q h)) in omega (arith, most)
-
--- the set has the numbers below k with the property
-abbrev pub HasBelow : (ℕ → Type 0) → ℕ → ℕ → Type 0
-HasBelow P k numbers = (q : ℕ) → IsBitSet numbers q ↔ ((q < k) × P q)
-
-pub number_in : (P : ℕ → Type 0) (k old new : ℕ) → P k → ((q : ℕ) → IsBitSet new q ↔ (IsBitSet old q ⊎ (q ≡ k))) → HasBelow P k old → HasBelow P (k + 1) new
-number_in P k old new holds more so_far q = (
-  λ h. elim ((more q).0 h) [
-    | inl there ↦ (let r = (so_far q).0 there in (omega (arith, r.0), r.1))
-    | inr e ↦ (omega (arith, e), subst P (sym e) holds)
-  ],
-  λ h. elim (cases_lt q k) [
-    | inl less ↦ (more q).1 (inl ((so_far q).1 (less, h.1)))
-    | inr above ↦ (more q).1 (inr (omega (arith, above, h.0)))
-  ],
-)
-
-pub number_out : (P : ℕ → Type 0) (k old : ℕ) → ¬ P k → HasBelow P k old → HasBelow P (k + 1) old
-number_out P k old fails so_far q = (
-  λ h. (let r = (so_far q).0 h in (omega (arith, r.0), r.1)),
-  λ h. elim (cases_lt q k) [
-    | inl less ↦ (so_far q).1 (less, h.1)
-    | inr above ↦ (let e : q ≡ k = omega (arith, above, h.0) in absurd (fails (subst P e h.1)))
-  ],
-)

@@ -1,14 +1,15 @@
 mod Counted
 mod FewTeams
 mod Growing
-mod Numbers
+pub mod Loads
+pub mod Numbers
 mod LeastExamples
 mod Outlines
 mod Joining
 mod NodesOf
 mod Regrouping
 mod Splitting
-mod Steps
+pub mod Steps
 mod SubTrees
 mod Tables
 mod Witnesses

@@ -15,6 +15,7 @@ use Rattle.cn_tree_costs.specs.Outline.{AreGroups, Outline, groups_in, members_i
 use Rattle.cn_tree_costs.specs.Outline.Outline.{End, Group, One}
 use Rattle.cn_tree_costs.specs.Sizes.{price}
 use Rattle.cn_tree_costs.proofs.Growing.{Raised, raised, same_cost}
+use Rattle.cn_tree_costs.proofs.Loads.{AreParts, at_most_trans, nodes_or, plus_some, sum_or}
 use Rattle.cn_tree_costs.proofs.Numbers.{fewer_each, price_few, two_or_more}
 use Rattle.cn_tree_costs.proofs.Outlines.{Grown, members_sum, join, join_groups, join_are, join_sizes, join_sum, join_steps, outline_of_tree}
 
@@ -27,21 +28,6 @@ root_of k sizes = record { sight = k; sizes = sizes }
 
 abbrev both : Load → Load → Load
 both x y = load (x.nodes + y.nodes) (x.sum + y.sum)
-
-record AreParts (a b : Option Load) (z : Load) : Type 0 where
-  pub x : Load
-  pub y : Load
-  pub first : a ≡ Some x
-  pub rest : b ≡ Some y
-  pub nodes_are : z.nodes ≡ x.nodes + y.nodes
-  pub sum_is : z.sum ≡ x.sum + y.sum
-
-plus_some : (a b : Option Load) (z : Load) → plus a b ≡ Some z → AreParts a b z
-plus_some None b z e = absurd cc
-plus_some (Some x) None z e = absurd cc
-plus_some (Some x) (Some y) z e =
-    let same : both x y ≡ z = cc in
-    record { x = x; y = y; first = refl; rest = refl; nodes_are = sym (ap (λ (l : Load). l.nodes) same); sum_is = sym (ap (λ (l : Load). l.sum) same) }
 
 at_most_both : (x x' y y' : Load) → IsAtMost x x' → IsAtMost y y' → IsAtMost (both x y) (both x' y')
 at_most_both x x' y y' (inl h) (inl k) = inl (omega arith)
@@ -56,21 +42,7 @@ at_most_on x y z (inr h) n s = let a = h.0 in let b = h.1 in elim (cases_lt y.no
   | inr ge ↦ inr (omega arith, omega arith)
 ]
 
-at_most_trans : (x y z : Load) → IsAtMost x y → IsAtMost y z → IsAtMost x z
-at_most_trans x y z (inl h) (inl k) = inl (omega arith)
-at_most_trans x y z (inl h) (inr k) = inl (let a = k.0 in omega arith)
-at_most_trans x y z (inr h) (inl k) = inl (let a = h.0 in omega arith)
-at_most_trans x y z (inr h) (inr k) = inr ((let a = h.0 in let b = k.0 in omega arith), (let a = h.1 in let b = k.1 in omega arith))
-
 -- ---- the loads of teams in another order
-abbrev nodes_or : Option Load → ℕ
-nodes_or None = 0
-nodes_or (Some x) = x.nodes
-
-abbrev sum_or : Option Load → ℕ
-sum_or None = 0
-sum_or (Some x) = x.sum
-
 record IsLoadOf (best : LoadTable) (b : ℕ) (sizes : List ℕ) (z : Load) : Type 0 where
   pub each : All (λ m. IsSome (best m b)) sizes
   pub nodes_are : z.nodes ≡ sum_by (λ m. nodes_or (best m b)) sizes

@@ -3,11 +3,12 @@ use Rattle.std.proofs.Common.{◌≡◌, ℕ, zero, suc, ◌+◌, ◌<◌, Bool,
 use Rattle.std.specs.Prelude.{slice_index}
 use Rattle.std.specs.List.{AllByRecursion, slice_get}
 use Rattle.std.proofs.lemmas.List.Elements.{Contains-get_or}
-use Rattle.cn_table.specs.TypeTable.{IsRow, IsTypeTable, Row, TypeTable, no_row, transition}
+use Rattle.cn_table.specs.TypeTable.{IsRow, IsTypeTable, Row, TypeTable, no_row}
 use Rattle.cn_meetings.specs.Meeting.{Meeting, act, sees}
 use Rattle.cn_meetings.specs.Meeting.Sight.{Nothing, State}
 use Rattle.cn_meetings.specs.Witness.{Has}
 use Rattle.cn_proto.specs.Order.{after, answers}
+use Rattle.cn_proto.proofs.Reachable.{after_below}
 use Rattle.cn_trees.specs.Tree.{comes_to, nodes_in}
 use Rattle.cn_tree_plans.specs.Plan.{IsTreePlan, TreePlan, judged_at, no_meeting, tree_of}
 use Rattle.cn_tree_plans.specs.declared.judged.Judged.{Judged}
@@ -38,8 +39,7 @@ module _ (t : TypeTable) (is : IsTypeTable t) where
   known o = listed_or (IsKnown t) t.operations o no_row (known_rows t.operations is.rows) (record { gives = λ s. is.responses.some; leads = λ s. is.states.some })
 
   after_known : (M : Meeting) (order : List ℕ) (s : ℕ) → s < length t.states → after (act t M) s order < length t.states
-  after_known M [] s l = l
-  after_known M (p ∷ order) s l = after_known M order (act t M p s).1 ((known (M.operation p)).leads s)
+  after_known M = after_below (act t M) (length t.states) (λ p. (known (M.operation p)).leads)
 
   answer_known : (M : Meeting) (order : List ℕ) (s k r : ℕ) → slice_get (answers (act t M) s order) k ≡ Some r → r < length t.responses
   answer_known M [] s k r h = absurd (cc h)

@@ -18,7 +18,7 @@ entry r q g = record { response = record { 0 = r }; state = record { 0 = q }; te
 same_entry : (a b c r q g : ℕ) → a ≡ r → b ≡ q → c ≡ g → entry a b c ≡ entry r q g
 same_entry a b c r q g e f h = ap (λ (x : ℕ). entry x b c) e ∙ (ap (λ (x : ℕ). entry r x c) f ∙ ap (entry r q) h)
 
-either : (a b : ℕ) → (a < b) ⊎ (a ≡ b) ⊎ (b < a)
+pub either : (a b : ℕ) → (a < b) ⊎ (a ≡ b) ⊎ (b < a)
 either a b = grind arith
 
 -- ---- entry by entry

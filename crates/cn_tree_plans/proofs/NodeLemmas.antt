@@ -1,5 +1,5 @@
 -- What the processes of a node of a tree are shown, by its teams.
-use Rattle.std.proofs.Common.{ℕ, ◌≡◌, ◌≢◌, ◌↔◌, ◌⊎◌, inl, inr, ◌+◌, ◌-◌, ◌<◌, ◌≤◌, Bool, true, false, List, [], ◌∷◌, length, slice_index, slice_index_or, refl, sym, ◌∙◌, subst, arith, if◌then◌else◌, Contains}
+use Rattle.std.proofs.Common.{ℕ, ◌≡◌, ◌≢◌, ◌↔◌, inl, inr, ◌+◌, ◌-◌, ◌<◌, ◌≤◌, Bool, true, false, List, [], ◌∷◌, length, slice_index, slice_index_or, refl, sym, ◌∙◌, subst, arith, if◌then◌else◌, Contains}
 use Rattle.std.specs.Prelude.{All}
 use Rattle.std.proofs.lemmas.List.Elements.{All-cons, All-nil}
 use Rattle.cn_table.specs.TypeTable.{IsTypeTable, TypeTable}
@@ -11,13 +11,15 @@ use Rattle.cn_trees.specs.Tree.{Teams, comes_to, members, nodes_in, team_in}
 use Rattle.cn_trees.specs.Tree.Teams.{Alone, Last, Meet}
 use Rattle.cn_tree_costs.specs.Nodes.{Node, node_at}
 use Rattle.cn_tree_costs.specs.Sizes.{IsDivision, sizes_of}
+use Rattle.cn_tree_costs.proofs.Numbers.{sizes_sum}
 use Rattle.cn_tree_plans.specs.Listing.{AreEntries, IsNodeMeeting, SomeShowSame, TeamShows, seen, start_of}
 use Rattle.cn_tree_plans.specs.Made.{IsShownTwice}
 use Rattle.cn_tree_plans.specs.Plan.{AreMeetings, IsShownBy, NodeMeeting, meeting_in, no_meeting, tree_with}
 use Rattle.cn_tree_plans.specs.Teams.{AreProper, AreSeveralBelow}
 use Rattle.cn_tree_plans.specs.declared.judged.Judged.{Judged}
+use Rattle.cn_tree_plans.proofs.ListingLemmas.{either}
 use Rattle.cn_tree_plans.proofs.Outcomes.{Outcomes, Pairs}
-use Rattle.cn_tree_plans.proofs.PlanLemmas.{ComesIs, TeamIs, sizes_sum, team_inside}
+use Rattle.cn_tree_plans.proofs.PlanLemmas.{ComesIs, TeamIs, team_inside}
 use Rattle.cn_tree_plans.proofs.SizeLemmas.{in_block, start_within}
 use Rattle.cn_tree_plans.proofs.TeamLemmas.{proper_at, several_bound, within}
 use Rattle.cn_tree_plans.proofs.Turning.{shown_outcomes}
@@ -28,9 +30,6 @@ inhabited (Alone r) h = All-cons (λ m. 1 ≤ m) 1 (sizes_of r) (omega arith) (i
 inhabited (Meet s r) h =
     let b = several_bound s h.1 in let a = h.0 in
     All-cons (λ m. 1 ≤ m) (members s) (sizes_of r) (omega arith) (inhabited r h.2)
-
-either : (a b : ℕ) → (a < b) ⊎ (a ≡ b) ⊎ (b < a)
-either a b = grind arith
 
 same_sight : (t : TypeTable) (reads : Bool) (q : ℕ) → sees t (if reads then State else Nothing) q ≡ seen reads q
 same_sight t true q = refl

@@ -1,37 +1,32 @@
 -- Outcome sets of a choice as what its processes are shown.
-use Rattle.std.proofs.Common.{ℕ, zero, suc, ◌≡◌, ◌≢◌, ◌+◌, ◌<◌, Bool, true, false, List, [], ◌∷◌, ◌++◌, length, replicate, slice_get, slice_index, Some, None, Option, option_map, unwrap_or, get_or, length-append, nat_eq, nat_lt, refl, sym, ap, ◌∙◌, subst, arith, if◌then◌else◌}
+use Rattle.std.proofs.Common.{ℕ, zero, suc, ◌≡◌, ◌≢◌, ◌+◌, ◌<◌, Bool, true, false, List, [], ◌∷◌, ◌++◌, length, replicate, slice_get, Some, None, Option, option_map, unwrap_or, get_or, length-append, nat_eq, nat_lt, refl, sym, ap, ◌∙◌, subst, arith, if◌then◌else◌}
 use Rattle.std.proofs.lemmas.Bool.Decides.{nat_tests}
 use Rattle.std.proofs.lemmas.List.Elements.{All-get_or}
 use Rattle.std.proofs.lemmas.Option.{slice_get_within, unwrap_or-slice_get}
 use Rattle.cn_table.specs.Run.{responses_along, state_after}
-use Rattle.cn_table.specs.TypeTable.{TypeTable, transition}
+use Rattle.cn_table.specs.TypeTable.{TypeTable}
 use Rattle.cn_choice.specs.Canonical.{Choice, raw_choice_of}
 use Rattle.cn_choice.specs.Moves.{move_of}
 use Rattle.cn_choice.specs.Orders.{IsOrder}
 use Rattle.cn_choice.specs.OutcomeSets.{InOutcomeSet, operations_of, pair_of, response_of}
 use Rattle.cn_choice.specs.RawChoices.{RawChoice}
-use Rattle.cn_choice.specs.declared.team.Team.{Team}
 use Rattle.cn_choice.specs.declared.team.Team.TheVariants.{A, B}
 use Rattle.cn_choice.proofs.ListLemmas.Members.{AllPairs-from_Pairs}
 use Rattle.cn_choice.proofs.OrderLemmas.AllOrders.{differ_from}
-use Rattle.cn_proto.specs.Order.{IsAnswered, IsRun, after, answers}
+use Rattle.cn_proto.specs.Order.{after}
 use Rattle.cn_proto.specs.Tournament.{team_of}
+use Rattle.cn_proto.proofs.Roles.{after_is, answers_are}
 use Rattle.cn_meetings.specs.Choices.{choice_meeting, choice_processes, choice_team}
 use Rattle.cn_meetings.specs.Meeting.{Meeting, Sight, sees}
 use Rattle.cn_meetings.specs.Witness.{BeginsIn, Has, IsOrderOf, IsShown}
 use Rattle.cn_meetings.proofs.Orders.{below}
+pub use Rattle.cn_meetings.proofs.Renaming.{Outcomes}
 
 -- the meeting of a choice whose processes look in this way
 abbrev pub looking : Sight → Choice → Meeting
 looking sight c = record (choice_meeting c) { sight = λ p. sight }
 
--- what the laws of choices and of tournaments say
-abbrev pub Outcomes : Type 0
-Outcomes = (t : TypeTable) (c : Choice) (side : Team) (order : List ℕ) (role response : ℕ)
-    → IsRun (length c.a + length c.b) (team_of (length c.a)) side order
-    → IsAnswered (move_of t (raw_choice_of c)) c.state order role response
-    → InOutcomeSet t (raw_choice_of c) side role (response, after (move_of t (raw_choice_of c)) c.state order)
-
+-- what the law of choices says
 abbrev pub Pairs : Type 0
 Pairs = (t : TypeTable) (c : RawChoice) (order : List ℕ) (j : ℕ) → pair_of t c order j
     ≡ option_map (λ response. (response, state_after t c.state (operations_of c order)))
@@ -69,14 +64,6 @@ answered_from j (p ∷ ps) (x ∷ xs) r e = go (nat_eq p j) refl e (answered_fro
         → (k : ℕ) × (slice_get (p ∷ ps) k ≡ Some j) × (slice_get (x ∷ xs) k ≡ Some r)
     go true e f on = (let same : p ≡ j = grind (arith, nat_tests) in (0, ap Some same, f))
     go false e f on = (let rest = on f in (suc rest.0, rest.1, rest.2))
-
-after_is : (t : TypeTable) (c : RawChoice) (state : ℕ) (order : List ℕ) → after (move_of t c) state order ≡ state_after t state (operations_of c order)
-after_is t c state [] = refl
-after_is t c state (p ∷ ps) = after_is t c (transition t (slice_index c.operations p) state).1 ps
-
-answers_are : (t : TypeTable) (c : RawChoice) (state : ℕ) (order : List ℕ) → answers (move_of t c) state order ≡ responses_along t state (operations_of c order)
-answers_are t c state [] = refl
-answers_are t c state (p ∷ ps) = ap (λ rs. (transition t (slice_index c.operations p) state).0 ∷ rs) (answers_are t c (transition t (slice_index c.operations p) state).1 ps)
 
 abbrev with_state : ℕ → ℕ → ℕ × ℕ
 with_state q r = (r, q)

@@ -6,7 +6,6 @@ use Rattle.std.proofs.Math.Seq.{get_or-append_seam}
 use Rattle.std.proofs.lemmas.Bool.{cases_lt}
 use Rattle.std.proofs.lemmas.Bool.Decides.{nat_tests}
 use Rattle.std.proofs.lemmas.List.{get_or-map, get_or_append_left, length-map}
-use Rattle.std.proofs.lemmas.List.Sums.{sum_by-cons}
 use Rattle.std.proofs.Math.ListN.{get_or-eq_default}
 use Rattle.cn_meetings.specs.Meeting.{IsSightOf, Sight}
 use Rattle.cn_meetings.specs.Meeting.Sight.{Nothing, State}
@@ -14,24 +13,21 @@ use Rattle.cn_meetings.specs.Witness.{BeginsIn, Has, IsOrderOf}
 use Rattle.cn_trees.specs.Consensus.{steps_before}
 use Rattle.cn_trees.specs.Steps.{looks_at}
 use Rattle.cn_trees.specs.Tree.{IsOfType, IsPlace, IsPlanTree, Place, PlanTree, Teams, comes_to, members, nodes_in, path_in, path_of, place_of as place_in, team_in}
-use Rattle.cn_trees.specs.Tree.Teams.{Alone, Last, Meet}
 use Rattle.cn_trees.proofs.Paths.{path_short}
 use Rattle.cn_trees.proofs.Places.{came, come, node_known, starts, team_there}
 use Rattle.cn_tree_costs.specs.Cost.{IsUniform}
 use Rattle.cn_tree_costs.specs.Nodes.{IsAmong, node_at}
 use Rattle.cn_tree_costs.specs.Sizes.{block, sizes_of}
+use Rattle.cn_tree_costs.proofs.Numbers.{sum_cons}
+pub use Rattle.cn_tree_costs.proofs.Numbers.{sizes_sum}
 use Rattle.cn_tree_plans.specs.Paths.{IsPlaceOf, place_of, places_of}
 use Rattle.cn_tree_plans.specs.Plan.{IsTreePlan, JudgedBefore, TreePlan, judged_at, judged_team, no_meeting, tree_of}
 use Rattle.cn_tree_plans.specs.declared.judged.Judged.{Judged}
 use Rattle.cn_tree_plans.specs.declared.place.Place.{Place as PlaceInMemory}
+use Rattle.cn_tree_plans.proofs.ListingLemmas.{entry}
 use Rattle.cn_tree_plans.proofs.TeamLemmas.{levels-nodes, proper_at, several_bound}
 
 -- ---- the teams of a node
-pub sizes_sum : (s : Teams) → sum (sizes_of s) ≡ members s
-sizes_sum Last = refl
-sizes_sum (Alone r) = omega (arith, sum_by-cons (λ (x : ℕ). x) 1 (sizes_of r), sizes_sum r)
-sizes_sum (Meet s r) = omega (arith, sum_by-cons (λ (x : ℕ). x) (members s) (sizes_of r), sizes_sum r)
-
 block_below : (sizes : List ℕ) (k : ℕ) → k < sum sizes → block sizes k < length sizes
 block_below [] k l = absurd (omega arith)
 block_below (m ∷ sizes) k l = go (nat_lt k m) refl (block_below sizes (k - m))
@@ -40,7 +36,7 @@ block_below (m ∷ sizes) k l = go (nat_lt k m) refl (block_below sizes (k - m))
     go true e on = omega arith
     go false e on =
         let le : m ≤ k = grind (arith, nat_tests) in
-        let i = on (omega (arith, sum_by-cons (λ (x : ℕ). x) m sizes)) in
+        let i = on (omega (arith, sum_cons m sizes)) in
         omega arith
 
 abbrev pub ComesIs : Type 0
@@ -165,9 +161,6 @@ few_nodes plan is = omega (arith, several_bound plan.teams is.proper.below, is.p
 -- ---- plans judge right
 abbrev test : ℕ → ℕ → Judged → Bool
 test r q x = (x.response.0 == r) && (x.state.0 == q)
-
-abbrev entry : ℕ → ℕ → ℕ → Judged
-entry r q g = record { response = record { 0 = r }; state = record { 0 = q }; team = g }
 
 test_here : (r q g : ℕ) → test r q (entry r q g) ≡ true
 test_here r q g =

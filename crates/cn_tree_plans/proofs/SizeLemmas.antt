@@ -3,12 +3,9 @@ use Rattle.std.proofs.Common.{ℕ, zero, suc, ◌≡◌, ◌↔◌, ◌+◌, ◌
 use Rattle.std.specs.Prelude.{All, sum}
 use Rattle.std.proofs.lemmas.Bool.Decides.{nat_tests}
 use Rattle.std.proofs.lemmas.List.Elements.{All-head, All-tail}
-use Rattle.std.proofs.lemmas.List.Sums.{sum_by-cons}
 use Rattle.cn_tree_costs.specs.Sizes.{block}
+use Rattle.cn_tree_costs.proofs.Numbers.{long_sum, sum_cons}
 use Rattle.cn_tree_plans.specs.Listing.{start_of}
-
-sum_cons : (m : ℕ) (sizes : List ℕ) → sum (m ∷ sizes) ≡ m + sum sizes
-sum_cons m sizes = sum_by-cons (λ (x : ℕ). x) m sizes
 
 start_suc : (sizes : List ℕ) (g : ℕ) → g < length sizes → start_of sizes (suc g) ≡ start_of sizes g + slice_index sizes g
 start_suc [] g l = absurd (omega arith)
@@ -27,14 +24,10 @@ start_within [] g l = absurd (omega arith)
 start_within (m ∷ sizes) zero l = omega (arith, sum_cons m sizes)
 start_within (m ∷ sizes) (suc g) l = let i = start_within sizes g (omega arith) in omega (arith, sum_cons m sizes)
 
-pub least_sum : (sizes : List ℕ) → All (λ m. 1 ≤ m) sizes → length sizes ≤ sum sizes
-least_sum [] all = omega arith
-least_sum (m ∷ sizes) all = let i = least_sum sizes (All-tail (λ m. 1 ≤ m) m sizes all) in let h = All-head (λ m. 1 ≤ m) m sizes all in omega (arith, sum_cons m sizes)
-
 -- no team has all processes
 pub size_less : (sizes : List ℕ) (g : ℕ) → All (λ m. 1 ≤ m) sizes → g < length sizes → slice_index sizes g + length sizes ≤ sum sizes + 1
 size_less [] g all l = absurd (omega arith)
-size_less (m ∷ sizes) zero all l = let i = least_sum sizes (All-tail (λ m. 1 ≤ m) m sizes all) in omega (arith, sum_cons m sizes)
+size_less (m ∷ sizes) zero all l = let i = long_sum sizes (All-tail (λ m. 1 ≤ m) m sizes all) in omega (arith, sum_cons m sizes)
 size_less (m ∷ sizes) (suc g) all l =
     let i = size_less sizes g (All-tail (λ m. 1 ≤ m) m sizes all) (omega arith) in
     let h = All-head (λ m. 1 ≤ m) m sizes all in omega (arith, sum_cons m sizes)

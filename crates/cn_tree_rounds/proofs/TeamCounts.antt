@@ -7,11 +7,10 @@ use Rattle.cn_tree_costs.specs.Nodes.{behind, node_at, node_below}
 use Rattle.cn_tree_costs.specs.Sizes.{sizes_of}
 use Rattle.cn_tree_plans.specs.Plan.{IsTreePlan, TreePlan}
 use Rattle.cn_tree_plans.specs.Teams.{AreSeveralBelow}
+use Rattle.cn_tree_plans.proofs.TeamLemmas.{several_bound}
 
 teams_few : (s : Teams) → AreSeveralBelow s → length (sizes_of s) ≤ members s
-teams_few Last h = omega arith
-teams_few (Alone r) h = let more = teams_few r h in omega arith
-teams_few (Meet s r) h = let own = teams_few s h.1 in let more = teams_few r h.2 in let several = h.0 in omega arith
+teams_few s h = let fewer = several_bound s h in omega arith
 
 teams_below : (s : Teams) → AreSeveralBelow s → (v : ℕ) → length (sizes_of (node_below s v).teams) ≤ members s
 teams_below Last h v = omega arith

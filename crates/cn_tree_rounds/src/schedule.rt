@@ -1,5 +1,5 @@
 //! Whole schedules: lists of the processes that take the steps.
-ghost use Rattle.std.specs.Prelude.{◌≡◌, ◌⊎◌, Err, IfErr, IfOk, OnOk, None, Some, nat_le, position};
+ghost use Rattle.std.specs.Prelude.{◌≡◌, ◌⊎◌, Err, IfErr, IfOk, OnOk, None, Some};
 ghost use Rattle.cn_agree.specs.Consensus.{IsSchedule};
 ghost use Rattle.cn_agree.specs.Schedules.{schedule_fault};
 ghost use Rattle.cn_agree.specs.declared.fault.ScheduleFault.{ScheduleFault as FaultOf};
@@ -15,7 +15,7 @@ ghost use Rattle.cn_tree_rounds.specs.Worlds.{IsOfPlan, world_of};
 use crate::action::StepRecord;
 use crate::laws::schedules_agree;
 use crate::world::World;
-use cn_agree::{Decided, ScheduleFault};
+use cn_agree::{Decided, ScheduleFault, schedule_fault};
 use cn_tree_plans::TreePlan;
 use cn_tree_plans::laws::tree_plans_are_right;
 use std::alloc::{AllocError, Global};
@@ -38,24 +38,6 @@ impl Model for Course {
     ghost view = { λ c. record { records = c.records.items; decisions = c.decisions.items } };
 }
 
-/// The first place of a schedule that names no process, for this number of processes.
-fn stranger_at(processes: u8, schedule: &[u8]) -> Option<usize>
-    ensures { result ≡ position (λ p. nat_le processes p) schedule.now }
-{
-    schedule.iter().position(|p| *p >= processes)
-}
-
-/// The first fault of inputs and a schedule for this number of processes.
-fn fault_of(processes: u8, inputs: &[u64], schedule: &[u8]) -> Option<ScheduleFault>
-    ensures { result ≡ schedule_fault processes inputs.now schedule.now }
-{
-    if inputs.len() != usize::from(processes) {
-        return Some(ScheduleFault::InputCount);
-    }
-    let place = stranger_at(processes, schedule)?;
-    Some(ScheduleFault::NoSuchProcess(place as u64))
-}
-
 /// The world before any step, if the inputs and the schedule have no fault.
 fn begun(
     alloc: Global,
@@ -74,7 +56,7 @@ fn begun(
     ensures refused { IfErr result (λ e. (e ≡ OutOfMemory)
         ⊎ (schedule_fault (processes_of (tree_of plan.now)) inputs.now schedule.now ≡ Some e)) }
 {
-    if let Some(fault) = fault_of(plan.processes(), inputs, schedule) {
+    if let Some(fault) = schedule_fault(plan.processes(), inputs, schedule) {
         return Err(fault);
     }
     Ok(World::new(alloc, plan, inputs)?)

@@ -5,7 +5,7 @@ use Rattle.std.specs.Prelude.{ℕ, zero, suc, List, [], ◌∷◌, ◌++◌, cod
 use Rattle.std.specs.List.{concat, range_with_len}
 use Rattle.cn_trees.specs.Tree.{Place, nodes_of, processes_of}
 use Rattle.cn_tree_plans.specs.Plan.{TreePlan, tree_of}
-use Rattle.cn_tree_text.specs.Places.{operation_at, place_at, places_of, reads_at, start_at}
+use Rattle.cn_tree_text.specs.Places.{operation_at, place_at, place_count, reads_at, start_at}
 use Rattle.cn_tree_text.specs.Text.{sight_text}
 
 -- the type
@@ -43,7 +43,7 @@ box_dot p =
 
 -- a process, and its edges up to the root
 abbrev pub process_dot : TreePlan → ℕ → List ℕ
-process_dot plan p = box_dot p ++ flat_map (edge_dot plan p) (range_with_len 0 (places_of plan p))
+process_dot plan p = box_dot p ++ flat_map (edge_dot plan p) (range_with_len 0 (place_count plan p))
 
 unfoldable pub plan_dot : TreePlan → List ℕ
 plan_dot plan =

@@ -8,8 +8,8 @@ use Rattle.cn_tree_costs.specs.Sizes.{sizes_of}
 use Rattle.cn_tree_plans.specs.Plan.{NodeMeeting, TreePlan, no_meeting, tree_of}
 
 -- the number of places on the path of a process
-abbrev pub places_of : TreePlan → ℕ → ℕ
-places_of plan p = length (path_of (tree_of plan) p)
+abbrev pub place_count : TreePlan → ℕ → ℕ
+place_count plan p = length (path_of (tree_of plan) p)
 
 -- place i of the path of process p
 abbrev pub place_at : TreePlan → ℕ → ℕ → Place

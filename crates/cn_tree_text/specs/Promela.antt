@@ -11,7 +11,7 @@ use Rattle.cn_trees.specs.Tree.{Place, nodes_of, processes_of}
 use Rattle.cn_tree_costs.specs.Cost.{cost}
 use Rattle.cn_tree_plans.specs.Plan.{TreePlan, judged_at, tree_of}
 use Rattle.cn_tree_plans.specs.declared.judged.Judged.{Judged}
-use Rattle.cn_tree_text.specs.Places.{node_meeting, operation_at, place_at, places_of, reads_at, team_count}
+use Rattle.cn_tree_text.specs.Places.{node_meeting, operation_at, place_at, place_count, reads_at, team_count}
 
 -- ---- what all processes share
 
@@ -132,7 +132,7 @@ decide_promela p steps =
 -- the end of the last action at place i; with its last action a process decides
 abbrev pub end_promela : TreePlan → ℕ → ℕ → List ℕ
 end_promela plan p i =
-    if i + 1 == places_of plan p then decide_promela p (steps_of (tree_of plan) p) else codes " };\n"
+    if i + 1 == place_count plan p then decide_promela p (steps_of (tree_of plan) p) else codes " };\n"
 
 -- the actions at place i of the path of process p
 abbrev pub place_promela : TreePlan → ℕ → ℕ → List ℕ
@@ -148,7 +148,7 @@ proctype_promela p =
 -- process p, with the label at which it stops
 abbrev pub process_promela : TreePlan → ℕ → List ℕ
 process_promela plan p =
-    proctype_promela p ++ flat_map (place_promela plan p) (range_with_len 0 (places_of plan p))
+    proctype_promela p ++ flat_map (place_promela plan p) (range_with_len 0 (place_count plan p))
     ++ codes "stopped:\n    skip\n}\n"
 
 unfoldable pub plan_promela : TreePlan → List ℕ

@@ -6,7 +6,7 @@ ghost use Rattle.cn_trees.specs.Tree.{comes_to, nodes_of, processes_of};
 ghost use Rattle.cn_tree_plans.specs.Paths.{place_of};
 ghost use Rattle.cn_tree_plans.specs.Plan.{tree_of};
 ghost use Rattle.cn_tree_text.specs.Dot.{arrow_dot, box_dot, edge_dot, head_dot, node_dot, origin_dot, plan_dot, process_dot};
-ghost use Rattle.cn_tree_text.specs.Places.{places_of};
+ghost use Rattle.cn_tree_text.specs.Places.{place_count};
 
 use crate::lines::sight_name;
 use crate::places::{path_len, place_at};
@@ -111,7 +111,7 @@ fn push_box(text: &mut String, process: u8) -> Result<(), AllocError>
 fn push_edges(text: &mut String, plan: &TreePlan, process: u8) -> Result<(), AllocError>
     requires { process < processes_of (tree_of plan.now) }
     ensures { OnOk result (string_bytes text.new ≡ string_bytes text.old
-        ++ flat_map (edge_dot plan.now process) (range_with_len 0 (places_of plan.now process))) }
+        ++ flat_map (edge_dot plan.now process) (range_with_len 0 (place_count plan.now process))) }
 {
     for place in 0..path_len(plan, process) {
         push_edge(text, plan, process, place)?;
@@ -127,7 +127,7 @@ fn push_edge(
     place: usize,
 ) -> Result<(), AllocError>
     requires process { process < processes_of (tree_of plan.now) }
-    requires place { place < places_of plan.now process }
+    requires place { place < place_count plan.now process }
     ensures { OnOk result (string_bytes text.new
         ≡ string_bytes text.old ++ edge_dot plan.now process place) }
 {
@@ -143,7 +143,7 @@ fn push_origin(
     place: usize,
 ) -> Result<(), AllocError>
     requires process { process < processes_of (tree_of plan.now) }
-    requires place { place < places_of plan.now process }
+    requires place { place < place_count plan.now process }
     ensures { OnOk result (string_bytes text.new
         ≡ string_bytes text.old ++ origin_dot plan.now process place) }
 {

@@ -5,7 +5,7 @@ ghost use Rattle.cn_trees.specs.Tree.{comes_to, nodes_of, processes_of};
 ghost use Rattle.cn_tree_costs.specs.Nodes.{IsAmong, node_at};
 ghost use Rattle.cn_tree_plans.specs.Paths.{place_of};
 ghost use Rattle.cn_tree_plans.specs.Plan.{judged_at, tree_of};
-ghost use Rattle.cn_tree_text.specs.Places.{first_at, place_at, places_of, size_at};
+ghost use Rattle.cn_tree_text.specs.Places.{first_at, place_at, place_count, size_at};
 
 use cn_tree_costs::laws::nodes_are_trees;
 use cn_tree_plans::laws::judgements_are_of_the_type;
@@ -14,7 +14,7 @@ use cn_tree_plans::{Judged, Place, TreePlan};
 /// A place of a path, whose node is one of the plan's, to which the process comes.
 pub(crate) fn place_at(plan: &TreePlan, process: u8, place: usize) -> Place
     requires process { process < processes_of (tree_of plan.now) }
-    requires place { place < places_of plan.now process }
+    requires place { place < place_count plan.now process }
     ensures place { place_of result ≡ place_at plan.now process place }
     ensures node { result.node < nodes_of (tree_of plan.now) }
     ensures comes { Has (comes_to plan.now.teams result.node) process }
@@ -25,7 +25,7 @@ pub(crate) fn place_at(plan: &TreePlan, process: u8, place: usize) -> Place
 /// The number of places on the path of a process.
 pub(crate) fn path_len(plan: &TreePlan, process: u8) -> usize
     requires { process < processes_of (tree_of plan.now) }
-    ensures { result ≡ places_of plan.now process }
+    ensures { result ≡ place_count plan.now process }
 {
     plan.path(process).len()
 }

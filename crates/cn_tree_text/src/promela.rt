@@ -5,7 +5,7 @@ ghost use Rattle.cn_meetings.specs.Witness.{Has};
 ghost use Rattle.cn_trees.specs.Tree.{comes_to, nodes_of, processes_of};
 ghost use Rattle.cn_tree_plans.specs.Paths.{place_of};
 ghost use Rattle.cn_tree_plans.specs.Plan.{tree_of};
-ghost use Rattle.cn_tree_text.specs.Places.{places_of};
+ghost use Rattle.cn_tree_text.specs.Places.{place_count};
 ghost use Rattle.cn_tree_text.specs.Promela.{actions_promela, apply_promela, end_promela, head_promela, judged_promela, look_promela, node_promela, place_promela, plan_promela, process_promela};
 ghost use Rattle.cn_tree_text.specs.Promela.{proctype_promela, read_promela, register_promela, row_promela, rules_promela, selection_promela, stand_promela, state_promela, take_promela, value_promela, write_promela};
 
@@ -149,7 +149,7 @@ fn push_places(text: &mut String, plan: &TreePlan, process: u8) -> Result<(), Al
     requires { process < processes_of (tree_of plan.now) }
     ensures { OnOk result (string_bytes text.new ≡ string_bytes text.old
         ++ flat_map (place_promela plan.now process)
-        (range_with_len 0 (places_of plan.now process))) }
+        (range_with_len 0 (place_count plan.now process))) }
 {
     for place in 0..path_len(plan, process) {
         push_place(text, plan, process, place)?;
@@ -165,7 +165,7 @@ fn push_place(
     place: usize,
 ) -> Result<(), AllocError>
     requires process { process < processes_of (tree_of plan.now) }
-    requires place { place < places_of plan.now process }
+    requires place { place < place_count plan.now process }
     ensures { OnOk result (string_bytes text.new
         ≡ string_bytes text.old ++ place_promela plan.now process place) }
 {
@@ -363,7 +363,7 @@ fn push_state(text: &mut String, reads: bool, state: State) -> Result<(), AllocE
 /// The end of the last action at a place; with its last action a process decides.
 fn push_end(text: &mut String, plan: &TreePlan, process: u8, place: usize) -> Result<(), AllocError>
     requires process { process < processes_of (tree_of plan.now) }
-    requires place { place < places_of plan.now process }
+    requires place { place < place_count plan.now process }
     ensures { OnOk result (string_bytes text.new
         ≡ string_bytes text.old ++ end_promela plan.now process place) }
 {

@@ -15,11 +15,11 @@ use Rattle.cn_form.specs.declared.answer_form.AnswerForm.{AnswerForm}
 use Rattle.cn_words.specs.declared.commands.Command.{Command}
 use Rattle.cn_words.specs.declared.commands.Command.TheVariants.{Find, FindUnread, Lint, Draw, Check, CheckUnread, Explain, Why, WhyRecoverable, WhyUnread, Pairs, Show, Agree, Replay, Serve}
 use Rattle.cn_words.specs.declared.commands.Invocation.{Invocation}
-use Rattle.cn_words.specs.declared.commands.Invocation.TheVariants.{Classify, Lives, OfTable}
+use Rattle.cn_words.specs.declared.commands.Invocation.TheVariants.{Classify, Lives, OfTable, ShortestPlan, ShortestRun}
 use Rattle.cn_words.specs.declared.commands.OpeningWords.{OpeningWords}
 use Rattle.cn_words.specs.declared.commands.TextSource.{TextSource}
-use Rattle.cn_words.specs.declared.lives.LivesWords.{LivesWords}
-use Rattle.cn_words.specs.GivenCommands.{Finds, HasAnswerForm, HasCertificate, HasDocumentForm, HasFlag, HasForm, HasLimit, HasLives, HasLivesTable, HasNumber, HasOpening, HasOptionalNumber, HasTables, HasWord, IsByte, IsInvocation, IsNamed, is_flag_set, is_limit_excluded, is_of_lives, path_in, path_of}
+use Rattle.cn_words.specs.declared.without_certificate.RunWords.{RunWords}
+use Rattle.cn_words.specs.GivenCommands.{Finds, HasAnswerForm, HasCertificate, HasDocumentForm, HasFlag, HasForm, HasLimit, HasNumber, HasOpening, HasOptionalNumber, HasPlanTable, HasRun, HasRunTable, HasTables, HasWord, IsByte, IsInvocation, IsNamed, excludes_certificate, is_flag_set, is_limit_excluded, path_in, path_of}
 
 -- two views of an optional value make their pair
 pub pair_of : {A B C : Type 0} (f : A → B) (g : A → C) (o : Option A) (q : Option (B × C)) → option_map f o ≡ option_map (λ p. p.0) q
@@ -113,10 +113,10 @@ Wants name rows =
     (MatchBool (bytes_eq name (codes "why"))
     (WantsLimit rows (is_flag_set (codes "without-read") rows) (is_flag_set (codes "recoverable") rows) × ((form : DocumentForm) × HasDocumentForm rows form))
     (MatchBool (bytes_eq name (codes "pairs")) ((form : DocumentForm) × HasDocumentForm rows form)
-    (MatchBool (bytes_eq name (codes "show")) (((w : TextSource) × HasCertificate rows w) × ((plan : PlanForm) × HasForm rows plan))
+    (MatchBool (bytes_eq name (codes "show")) (((w : TextSource) × HasCertificate rows w) × ((plan : PlanForm) × HasForm rows plan) × (excludes_certificate rows ≡ false))
     (MatchBool (bytes_eq name (codes "agree"))
     (((w : TextSource) × HasCertificate rows w) × ((l : Bor Text) × HasWord (codes "INPUTS") rows l.now) × ((l : Bor Text) × HasWord (codes "SCHEDULE") rows l.now)
-    × ((form : AnswerForm) × HasAnswerForm rows form) × (is_of_lives rows ≡ false))
+    × ((form : AnswerForm) × HasAnswerForm rows form) × (excludes_certificate rows ≡ false))
     (MatchBool (bytes_eq name (codes "replay")) (((o : OpeningWords) × HasOpening rows o) × ((l : Bor Text) × HasWord (codes "EVENTS") rows l.now) × ((form : AnswerForm) × HasAnswerForm rows form))
     (MatchBool (bytes_eq name (codes "serve")) (((o : OpeningWords) × HasOpening rows o) × ((l : Bor Text) × HasWord (codes "CALLS") rows l.now) × ((form : AnswerForm) × HasAnswerForm rows form))
     ⊥))))))))))
@@ -141,7 +141,7 @@ wants name rows (WhyRecoverable all form) h =
 wants name rows (WhyUnread all form) h =
     subst (λ n. Wants n rows) (sym h.0) (limits rows _ _ true false h.1.0 h.1.1 (refl, h.1.2), (form, h.1.4))
 wants name rows (Pairs form) h = subst (λ n. Wants n rows) (sym h.0) (form, h.1)
-wants name rows (Show certificate plan) h = subst (λ n. Wants n rows) (sym h.0) ((certificate, h.1.0), (plan, h.1.1))
+wants name rows (Show certificate plan) h = subst (λ n. Wants n rows) (sym h.0) ((certificate, h.1.0), (plan, h.1.1), h.1.2)
 wants name rows (Agree certificate inputs schedule steps form) h =
     subst (λ n. Wants n rows) (sym h.0) ((certificate, h.1.0), (inputs, h.1.1), (schedule, h.1.2), (form, h.1.4), h.1.5)
 wants name rows (Replay opening events form) h = subst (λ n. Wants n rows) (sym h.0) ((opening, h.1.0), (events, h.1.1), (form, h.1.2))
@@ -154,10 +154,12 @@ pub classify_wants : (rows : List Row) (i : Invocation) → IsInvocation (codes 
 classify_wants rows (Classify limit recoverable without_read form tables) h = (h.1, (limit, h.2), (form, h.5), (tables, h.6))
 classify_wants rows (OfTable table command) h = absurd (wants (codes "classify") rows command h.arguments)
 classify_wants rows (Lives table words) h = absurd (subst (λ n. MatchBool (bytes_eq n (codes "classify")) (Unit {0}) ⊥) h.0 tt)
+classify_wants rows (ShortestRun table words) h = absurd (subst (λ n. MatchBool (bytes_eq n (codes "classify")) (Unit {0}) ⊥) h.0 tt)
+classify_wants rows (ShortestPlan table processes form) h = absurd (subst (λ n. MatchBool (bytes_eq n (codes "classify")) (Unit {0}) ⊥) h.0 tt)
 
 -- what `agree --recoverable` requires of its words
 pub lives_wants : (rows : List Row) (i : Invocation) → is_flag_set (codes "recoverable") rows ≡ true → IsInvocation (codes "agree") rows i
-    → ((t : TextSource) × HasLivesTable rows t) × ((w : LivesWords) × HasLives rows w)
+    → (is_flag_set (codes "shortest") rows ≡ false) × ((t : TextSource) × HasRunTable rows t) × ((w : RunWords) × HasRun rows w)
 lives_wants rows (Classify limit recoverable without_read form tables) flag h = absurd (subst (λ n. MatchBool (bytes_eq n (codes "agree")) (Unit {0}) ⊥) h.0 tt)
 lives_wants rows (OfTable table command) flag h =
     absurd (go (is_flag_set (codes "recoverable") rows) _ flag (wants (codes "agree") rows command h.arguments).4)
@@ -165,4 +167,32 @@ lives_wants rows (OfTable table command) flag h =
     go : (b d : Bool) → b ≡ true → (b || d) ≡ false → ⊥
     go true d e h = cc
     go false d e h = cc
-lives_wants rows (Lives table words) flag h = ((table, h.2), (words, h.3))
+lives_wants rows (Lives table words) flag h = (h.2, (table, h.3), (words, h.4))
+lives_wants rows (ShortestRun table words) flag h = let bad : true ≡ false = sym flag ∙ h.2 in cc
+lives_wants rows (ShortestPlan table processes form) flag h = absurd (subst (λ n. MatchBool (bytes_eq n (codes "agree")) (Unit {0}) ⊥) h.0 tt)
+
+-- a flag that excludes a certificate is not there beside one
+not_beside : (r s p : Bool) → s ≡ true → (r || (s || p)) ≡ false → ⊥
+not_beside true s p e h = cc
+not_beside false true p e h = cc
+not_beside false false p e h = cc
+
+-- what `agree --shortest` requires of its words
+pub run_wants : (rows : List Row) (i : Invocation) → is_flag_set (codes "shortest") rows ≡ true → IsInvocation (codes "agree") rows i
+    → ((t : TextSource) × HasRunTable rows t) × ((w : RunWords) × HasRun rows w)
+run_wants rows (Classify limit recoverable without_read form tables) flag h = absurd (subst (λ n. MatchBool (bytes_eq n (codes "agree")) (Unit {0}) ⊥) h.0 tt)
+run_wants rows (OfTable table command) flag h =
+    absurd (not_beside _ (is_flag_set (codes "shortest") rows) _ flag (wants (codes "agree") rows command h.arguments).4)
+run_wants rows (Lives table words) flag h = let bad : true ≡ false = sym flag ∙ h.2 in cc
+run_wants rows (ShortestRun table words) flag h = ((table, h.3), (words, h.4))
+run_wants rows (ShortestPlan table processes form) flag h = absurd (subst (λ n. MatchBool (bytes_eq n (codes "agree")) (Unit {0}) ⊥) h.0 tt)
+
+-- what `show --shortest` requires of its words
+pub plan_wants : (rows : List Row) (i : Invocation) → is_flag_set (codes "shortest") rows ≡ true → IsInvocation (codes "show") rows i
+    → ((t : TextSource) × HasPlanTable rows t) × ((n : Option ℕ) × HasOptionalNumber (codes "processes") rows n) × ((form : PlanForm) × HasForm rows form)
+plan_wants rows (Classify limit recoverable without_read form tables) flag h = absurd (subst (λ n. MatchBool (bytes_eq n (codes "show")) (Unit {0}) ⊥) h.0 tt)
+plan_wants rows (OfTable table command) flag h =
+    absurd (not_beside _ (is_flag_set (codes "shortest") rows) _ flag (wants (codes "show") rows command h.arguments).2)
+plan_wants rows (Lives table words) flag h = absurd (subst (λ n. MatchBool (bytes_eq n (codes "show")) (Unit {0}) ⊥) h.0 tt)
+plan_wants rows (ShortestRun table words) flag h = absurd (subst (λ n. MatchBool (bytes_eq n (codes "show")) (Unit {0}) ⊥) h.0 tt)
+plan_wants rows (ShortestPlan table processes form) flag h = ((table, h.2), (processes, h.3), (form, h.4))

@@ -37,6 +37,10 @@ abbrev pub processes_option : Rule
 processes_option =
     record (value_option (codes "processes")) { parser = Some (Signed (pos 0) (pos 255)) }
 
+-- the file of the certificate as a word, which may be left out
+abbrev pub optional_certificate_word : Rule
+optional_certificate_word = new_rule (codes "CERT")
+
 -- --table FILE
 abbrev pub table_option : Rule
 table_option = value_option (codes "table")
@@ -146,7 +150,8 @@ pairs_words forms = command_with (codes "pairs") (table_word ∷ form_option for
 
 abbrev pub show_words : ValueParser → Shape
 show_words forms = command_with (codes "show")
-    (certificate_word ∷ form_option forms ∷ table_option ∷ file_word ∷ [])
+    (optional_certificate_word ∷ flag (codes "shortest") ∷ processes_option ∷ form_option forms
+    ∷ table_option ∷ file_word ∷ [])
 
 abbrev pub draw_words : Shape
 draw_words = command_with (codes "draw") (table_option ∷ file_word ∷ [])
@@ -154,8 +159,8 @@ draw_words = command_with (codes "draw") (table_option ∷ file_word ∷ [])
 abbrev pub agree_words : ValueParser → Shape
 agree_words forms = command_with (codes "agree")
     (certificate_word ∷ required_word (codes "INPUTS") ∷ required_word (codes "SCHEDULE")
-    ∷ flag (codes "steps") ∷ flag (codes "recoverable") ∷ processes_option ∷ form_option forms
-    ∷ table_option ∷ file_word ∷ [])
+    ∷ flag (codes "steps") ∷ flag (codes "recoverable") ∷ flag (codes "shortest")
+    ∷ processes_option ∷ form_option forms ∷ table_option ∷ file_word ∷ [])
 
 abbrev pub replay_words : ValueParser → Shape
 replay_words forms = command_with (codes "replay")

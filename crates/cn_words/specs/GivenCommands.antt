@@ -25,9 +25,10 @@ use Rattle.cn_words.specs.declared.commands.CommandFault.{CommandFault}
 use Rattle.cn_words.specs.declared.commands.CommandFault.TheVariants as fault
 use Rattle.cn_words.specs.declared.commands.Invocation.{Invocation}
 use Rattle.cn_words.specs.declared.commands.Invocation.TheVariants.{Classify, Lives, OfTable}
+use Rattle.cn_words.specs.declared.commands.Invocation.TheVariants.{ShortestPlan, ShortestRun}
 use Rattle.cn_words.specs.declared.commands.OpeningWords.{OpeningWords}
 use Rattle.cn_words.specs.declared.commands.TextSource.{TextSource}
-use Rattle.cn_words.specs.declared.lives.LivesWords.{LivesWords}
+use Rattle.cn_words.specs.declared.without_certificate.RunWords.{RunWords}
 use Rattle.cn_words.specs.declared.commands.TextSource.TheVariants as source
 
 -- what clap found, argument by argument
@@ -142,23 +143,36 @@ HasOpening rows opening = HasCertificate rows opening.certificate
     × HasWord (codes "START") rows opening.start.now
     × HasWord (codes "CAPACITY") rows opening.capacity.now
 
--- ---- a run of processes that crash and come back
+-- ---- plans without a certificate
 
--- each argument is what its word says
-abbrev pub HasLives : List Row → LivesWords → Type 0
-HasLives rows words = HasWord (codes "INPUTS") rows words.inputs.now
+-- each argument of a run is what its word says
+abbrev pub HasRun : List Row → RunWords → Type 0
+HasRun rows words = HasWord (codes "INPUTS") rows words.inputs.now
     × HasWord (codes "SCHEDULE") rows words.schedule.now
     × HasOptionalNumber (codes "processes") rows words.processes
     × (words.steps ≡ is_flag_set (codes "steps") rows) × HasAnswerForm rows words.form
 
--- the first word says where the table is, and no other word does
-abbrev pub HasLivesTable : List Row → TextSource → Type 0
-HasLivesTable rows table = HasCertificate rows table × (table_in rows ≡ None)
+-- the first word says where the table of a run is, and no other word does
+abbrev pub HasRunTable : List Row → TextSource → Type 0
+HasRunTable rows table = HasCertificate rows table × (table_in rows ≡ None)
 
--- whether a word is there that only such a run has
-abbrev pub is_of_lives : List Row → Bool
-is_of_lives rows =
-    is_flag_set (codes "recoverable") rows || is_some (first_of (codes "processes") rows)
+-- the word that says where the table of the shortest plan is: the value of the option, or else the
+-- first word
+abbrev pub plan_table_in : List Row → Option Text
+plan_table_in rows = option_or (first_of (codes "table") rows) (first_of (codes "CERT") rows)
+
+-- the table is also standard input if no word says where it is; there is no second word, and the
+-- option and the first word do not both say so
+pub record HasPlanTable (rows : List Row) (table : TextSource) : Type 0 where
+  pub source : path_of table ≡ option_and_then path_in (plan_table_in rows)
+  pub one : first_of (codes "FILE") rows ≡ None
+  pub once :
+      (is_some (first_of (codes "table") rows) && is_some (first_of (codes "CERT") rows)) ≡ false
+
+-- whether a word is there that no command by a certificate has
+abbrev pub excludes_certificate : List Row → Bool
+excludes_certificate rows = is_flag_set (codes "recoverable") rows
+    || (is_flag_set (codes "shortest") rows || is_some (first_of (codes "processes") rows))
 
 -- ---- numbers
 
@@ -215,11 +229,12 @@ HasArguments rows (WhyUnread all form) =
     × (is_flag_set (codes "recoverable") rows ≡ false) × (first_of (codes "limit") rows ≡ None)
     × HasFlag (codes "all") rows all × HasDocumentForm rows form
 HasArguments rows (Pairs form) = HasDocumentForm rows form
-HasArguments rows (Show certificate plan) = HasCertificate rows certificate × HasForm rows plan
+HasArguments rows (Show certificate plan) =
+    HasCertificate rows certificate × HasForm rows plan × (excludes_certificate rows ≡ false)
 HasArguments rows (Agree certificate inputs schedule steps form) =
     HasCertificate rows certificate × HasWord (codes "INPUTS") rows inputs.now
     × HasWord (codes "SCHEDULE") rows schedule.now × HasFlag (codes "steps") rows steps
-    × HasAnswerForm rows form × (is_of_lives rows ≡ false)
+    × HasAnswerForm rows form × (excludes_certificate rows ≡ false)
 HasArguments rows (Replay opening events form) =
     HasOpening rows opening × HasWord (codes "EVENTS") rows events.now × HasAnswerForm rows form
 HasArguments rows (Serve opening calls form) =
@@ -247,8 +262,15 @@ IsInvocation name rows (Classify limit recoverable without_read form tables) =
     × HasTables rows tables.items
 IsInvocation name rows (OfTable table command) = IsOfTable name rows table command
 IsInvocation name rows (Lives table words) = (name ≡ codes "agree")
-    × (is_flag_set (codes "recoverable") rows ≡ true) × HasLivesTable rows table
-    × HasLives rows words
+    × (is_flag_set (codes "recoverable") rows ≡ true)
+    × (is_flag_set (codes "shortest") rows ≡ false) × HasRunTable rows table × HasRun rows words
+IsInvocation name rows (ShortestRun table words) = (name ≡ codes "agree")
+    × (is_flag_set (codes "shortest") rows ≡ true)
+    × (is_flag_set (codes "recoverable") rows ≡ false) × HasRunTable rows table
+    × HasRun rows words
+IsInvocation name rows (ShortestPlan table processes form) = (name ≡ codes "show")
+    × (is_flag_set (codes "shortest") rows ≡ true) × HasPlanTable rows table
+    × HasOptionalNumber (codes "processes") rows processes × HasForm rows form
 
 -- the invocation of the parsed command, by the words behind its name
 abbrev pub IsInvocationOf : ArgMatches → Invocation → Type 0

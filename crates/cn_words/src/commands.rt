@@ -5,7 +5,9 @@ ghost use Rattle.clap.specs.Walk.{first_of};
 ghost use Rattle.cn_words.specs.GivenCommands.{Finds, HasAnswerForm, HasCertificate, HasDocumentForm, HasForm, HasLimit, HasNumber, HasOpening, HasOptionalNumber, HasTable, HasTables, HasWord, IsInvocation, IsInvocationOf, IsNamed, RefusesCommand, is_flag_set, is_input, is_input_shared, is_limit_excluded, is_table_twice, path_in, path_of, rows_in, table_in};
 ghost use Rattle.cn_words.specs.declared.commands.CommandFault.TheVariants.{OutOfMemory};
 
-use crate::lives::{LivesWords, is_flag_set, is_of_lives, lives, lives_table};
+use crate::without_certificate::{
+    RunWords, excludes_certificate, is_flag_set, plan_table, run_table, run_words,
+};
 use clap::ArgMatches;
 use cn_form::{AnswerForm, DocumentForm, PlanForm};
 use std::alloc::{AllocError, Global};
@@ -169,7 +171,23 @@ pub enum Invocation<'a> {
         /// Where the table is read from.
         table: TextSource<'a>,
         /// The words for the run.
-        words: LivesWords<'a>,
+        words: RunWords<'a>,
+    },
+    /// Runs the shortest plan by a schedule.
+    ShortestRun {
+        /// Where the table is read from.
+        table: TextSource<'a>,
+        /// The words for the run.
+        words: RunWords<'a>,
+    },
+    /// Writes the shortest plan.
+    ShortestPlan {
+        /// Where the table is read from.
+        table: TextSource<'a>,
+        /// How many processes there are, if a number was given.
+        processes: Option<u8>,
+        /// The form of the plan.
+        form: PlanForm,
     },
 }
 
@@ -457,6 +475,9 @@ fn pairs<'a>(words: &ArgMatches<'a>) -> Option<Command<'a>>
 fn show<'a>(words: &ArgMatches<'a>) -> Option<Command<'a>>
     ensures { Finds (IsNamed (codes "show") (rows_in words.now)) result }
 {
+    if excludes_certificate(words) {
+        return None;
+    }
     Some(Command::Show {
         certificate: certificate(words)?,
         form: form(words)?,
@@ -466,7 +487,7 @@ fn show<'a>(words: &ArgMatches<'a>) -> Option<Command<'a>>
 fn agree<'a>(words: &ArgMatches<'a>) -> Option<Command<'a>>
     ensures { Finds (IsNamed (codes "agree") (rows_in words.now)) result }
 {
-    if is_of_lives(words) {
+    if excludes_certificate(words) {
         return None;
     }
     Some(Command::Agree {
@@ -567,9 +588,36 @@ fn lives_run<'a>(words: &ArgMatches<'a>) -> Option<Invocation<'a>>
     requires { is_flag_set (codes "recoverable") (rows_in words.now) ≡ true }
     ensures { Finds (IsInvocation (codes "agree") (rows_in words.now)) result }
 {
+    if is_flag_set(words, "shortest") {
+        return None;
+    }
     Some(Invocation::Lives {
-        table: lives_table(words)?,
-        words: lives(words)?,
+        table: run_table(words)?,
+        words: run_words(words)?,
+    })
+}
+
+// What `agree --shortest` asks for.
+fn shortest_run<'a>(words: &ArgMatches<'a>) -> Option<Invocation<'a>>
+    requires shortest { is_flag_set (codes "shortest") (rows_in words.now) ≡ true }
+    requires lasting { is_flag_set (codes "recoverable") (rows_in words.now) ≡ false }
+    ensures { Finds (IsInvocation (codes "agree") (rows_in words.now)) result }
+{
+    Some(Invocation::ShortestRun {
+        table: run_table(words)?,
+        words: run_words(words)?,
+    })
+}
+
+// What `show --shortest` asks for.
+fn shortest_plan<'a>(words: &ArgMatches<'a>) -> Option<Invocation<'a>>
+    requires { is_flag_set (codes "shortest") (rows_in words.now) ≡ true }
+    ensures { Finds (IsInvocation (codes "show") (rows_in words.now)) result }
+{
+    Some(Invocation::ShortestPlan {
+        table: plan_table(words)?,
+        processes: optional_number(words, "processes")?,
+        form: form(words)?,
     })
 }
 
@@ -586,6 +634,12 @@ fn invocation_named<'a>(
     }
     if name == "agree" && is_flag_set(words, "recoverable") {
         return Ok(lives_run(words));
+    }
+    if name == "agree" && is_flag_set(words, "shortest") {
+        return Ok(shortest_run(words));
+    }
+    if name == "show" && is_flag_set(words, "shortest") {
+        return Ok(shortest_plan(words));
     }
     if is_table_twice(words) || is_input_shared(words) {
         return Ok(None);
@@ -618,8 +672,8 @@ pub fn invocation_of<'a>(
     alloc: Global,
     matches: &ArgMatches<'a>,
 ) -> Result<Invocation<'a>, CommandFault>
-    // promise: command-of-words (IsInvocationOf: IsInvocation, HasLives, HasLivesTable, IsOfTable:
-    //     arguments, source, once, input; RefusesCommand)
+    // promise: command-of-words (IsInvocationOf: IsInvocation, HasRun, HasRunTable, HasPlanTable,
+    //     IsOfTable: arguments, source, once, input; RefusesCommand)
     ensures { MatchResult result (IsInvocationOf matches.now)
         (RefusesCommand (IsInvocationOf matches.now)) }
 {

@@ -7,7 +7,7 @@
 //! ```text
 //! match parse(alloc, &words) {
 //!     Ok(Invocation::Classify { tables, .. }) => println!(rt; "{} tables", tables.len())?,
-//!     Ok(Invocation::OfTable { .. } | Invocation::Lives { .. }) => println!(rt; "one table")?,
+//!     Ok(_) => println!(rt; "one table")?,
 //!     Err(Reply::Help(text) | Reply::Refusal(text)) => println!(rt; "{text}")?,
 //!     Err(Reply::Fault(_)) => println!(rt; "no command")?,
 //! }
@@ -15,11 +15,11 @@
 #![tactic(auto)]
 
 mod commands;
-mod lives;
 mod replies;
+mod without_certificate;
 mod words;
 
 pub use commands::{Command, CommandFault, Invocation, OpeningWords, TextSource, invocation_of};
-pub use lives::LivesWords;
 pub use replies::{Reply, parse};
+pub use without_certificate::RunWords;
 pub use words::command;

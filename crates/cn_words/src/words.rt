@@ -2,7 +2,7 @@
 ghost use Rattle.std.specs.Prelude.{◌≡◌, [], ◌∷◌, IfOk, codes};
 ghost use Rattle.clap.specs.Simple.{new_shape};
 ghost use Rattle.clap.specs.Walk.{texts};
-ghost use Rattle.cn_words.specs.CommandLine.{AddsArgument, AddsCommand, AddsTable, HasCommands, HasCommandsFor, IsArgument, IsCommand, IsCommandFor, TakesWords, agree_words, answer_forms, certificate_word, check_words, classify_words, command_with, commands, document_forms, draw_words, explain_words, file_word, find_words, flag, form_option, limit_option, lint_words, opening_words, pairs_words, plan_forms, processes_option, replay_words, required_word, required_words, serve_words, show_words, table_option, table_word, value_option, why_words};
+ghost use Rattle.cn_words.specs.CommandLine.{AddsArgument, AddsCommand, AddsTable, HasCommands, HasCommandsFor, IsArgument, IsCommand, IsCommandFor, TakesWords, agree_words, answer_forms, certificate_word, check_words, classify_words, command_with, commands, document_forms, draw_words, explain_words, file_word, find_words, flag, form_option, limit_option, lint_words, opening_words, optional_certificate_word, pairs_words, plan_forms, processes_option, replay_words, required_word, required_words, serve_words, show_words, table_option, table_word, value_option, why_words};
 
 use clap::builder::ValueParser;
 use clap::{Arg, ArgAction, Command, value_parser};
@@ -22,7 +22,7 @@ explain the code of a fault, as that of table: 8 RowLength.
 
 Exit status:
   0  done
-  1  the check refuses the certificate, or it has no witness, or a call found no slot
+  1  the check refuses the certificate, or there is no witness or plan, or a call found no slot
   2  the text of a table or of the certificate is refused, or a file behind @ is too long
   3  wrong command line: unknown option, bad argument, limit not 2 to 8, or a type too large for
      this limit
@@ -239,7 +239,7 @@ const ANSWER_FORMS: [&str; 2] = ["text", "json"];
 /// The forms of an answer in a document.
 const DOCUMENT_FORMS: [&str; 3] = ["text", "json", "markdown"];
 
-const SHOW_ABOUT: &str = "Writes the plan of a certificate's witness";
+const SHOW_ABOUT: &str = "Writes the plan of a certificate's witness, or the shortest plan";
 
 const SHOW_AFTER: &str = help!(
     "\
@@ -258,6 +258,16 @@ With --as json this is one JSON object; with --as dot, the tournament as a pictu
 DOT, for Graphviz; with --as promela, a model in Promela, in which the model checker spin finds that
 all decisions are equal, are the value of a process that has moved, and come in time; with --as rust
 and --as c, a file of source code by which threads agree over an object of the type.
+
+With --shortest writes the shortest plan in place of it: show --shortest FILE. The type is in FILE,
+or on standard input or behind --table, and there is no certificate. The plan is for N processes, or
+without --processes N for as many as the type brings to agreement, up to 8. At each node two or more
+teams meet, and all its processes read the object, or none does. Of all such plans this one has the
+fewest own steps of the process that takes most, then the fewest objects, then the fewest steps of
+all processes; a protocol of another kind may have fewer. Writes a line on the type; for each node a
+line with its teams, and for each of its processes a line with its operation, and the team that it
+judges to have come first by each response or response/state; and for each process a line with its
+steps and its places. The forms are the same.
 
 ",
     "  cnum show types/test_and_set_at_3.json < types/test_and_set.toml
@@ -305,6 +315,12 @@ a step of process P, and cP a crash: the process begins again with its number. A
 are ever made are equal, and each is the number of a process that has taken a step or has decided.
 With --steps there are three lines more: P: crashes; P: reads S at node N: start state, before its
 operation; P: finds nothing in T of node N, where no process of team T has written.
+
+With --shortest runs the shortest plan, which show --shortest writes, and no process crashes: agree
+--shortest FILE INPUTS SCHEDULE. The type is in FILE, and there is no certificate. The plan is for N
+processes, or without --processes N for as many as the type brings to agreement, up to 8. The lines
+name teams by their numbers, as team 0; where P does not read, P: applies O at node N: R, team T has
+the team that it judges to have come first.
 
 A list is numbers with a comma and no space between two, at most 65536 of them, or the word none.
 INPUTS are from 0 to 18446744073709551615, one for each process, SCHEDULE is processes from 0 on.
@@ -386,11 +402,11 @@ fn value_option<'a>(alloc: Global, id: &'a str, value: &'a str, help: &'a str) -
         .action(ArgAction::Set)
 }
 
-/// The number of processes that crash and come back.
+/// The number of processes of a plan without a certificate.
 fn processes<'a>(alloc: Global) -> Arg<'a>
     ensures { IsArgument processes_option result }
 {
-    let help = "How many processes crash and come back, from 2 to 8";
+    let help = "How many processes there are, from 2 to 8, where there is no certificate";
     value_option(alloc, "processes", "N", help).value_parser(value_parser!(u8))
 }
 
@@ -424,6 +440,13 @@ fn file_word<'a>(alloc: Global) -> Arg<'a>
     ensures { IsArgument file_word result }
 {
     Arg::new(alloc, "FILE").help("The file that holds the type table, in place of standard input")
+}
+
+/// The file of a certificate, or that of the table where there is none.
+fn optional_certificate<'a>(alloc: Global) -> Arg<'a>
+    ensures { IsArgument optional_certificate_word result }
+{
+    Arg::new(alloc, "CERT").help("The file that holds the certificate, or - for standard input")
 }
 
 /// The same file as a word that is required.
@@ -599,8 +622,12 @@ fn pairs<'a>(alloc: Global) -> Result<Command<'a>, AllocError>
 fn show<'a>(alloc: Global) -> Result<Command<'a>, AllocError>
     ensures { IfOk result (IsCommandFor plan_forms show_words) }
 {
+    let shortest = "Writes the shortest plan, with no certificate: CERT is the table";
     let help = "The form in which the plan is written";
-    let command = with_certificate(alloc, "show", SHOW_ABOUT, SHOW_AFTER);
+    let command = bare_command(alloc, "show", SHOW_ABOUT, SHOW_AFTER);
+    let command = with_argument(Ok(command), optional_certificate(alloc));
+    let command = with_argument(command, flag(alloc, "shortest", shortest));
+    let command = with_argument(command, processes(alloc));
     let command = with_argument(command, form(alloc, &PLAN_FORMS, help));
     with_table(alloc, command)
 }
@@ -619,12 +646,14 @@ fn agree<'a>(alloc: Global) -> Result<Command<'a>, AllocError>
     let schedule = "The processes in the order of their steps, or @FILE";
     let steps = "Tells what each step does, before the decisions";
     let crashes = "Lets processes crash: CERT is the table, and a cP in SCHEDULE a crash";
+    let shortest = "Runs the shortest plan, with no certificate: CERT is the table";
     let help = "The form in which the run is written";
     let command = with_certificate(alloc, "agree", AGREE_ABOUT, AGREE_AFTER);
     let command = with_argument(command, required_word(alloc, "INPUTS", inputs));
     let command = with_argument(command, required_word(alloc, "SCHEDULE", schedule));
     let command = with_argument(command, flag(alloc, "steps", steps));
     let command = with_argument(command, flag(alloc, "recoverable", crashes));
+    let command = with_argument(command, flag(alloc, "shortest", shortest));
     let command = with_argument(command, processes(alloc));
     let command = with_argument(command, form(alloc, &ANSWER_FORMS, help));
     with_table(alloc, command)

@@ -4,4 +4,5 @@ pub mod LivesRuns
 pub mod NamedTables
 pub mod Obeying
 pub mod Runs
+pub mod ShortestRuns
 pub mod Texts

@@ -1,7 +1,7 @@
 -- What a run of processes that crash and come back reads and writes, by the words for it.
 use Rattle.std.specs.Prelude.{◌≡◌, ◌⊎◌, ℕ, List, Option, Result}
-use Rattle.cn_words.specs.declared.lives.LivesWords.{LivesWords}
 use Rattle.cn_words.specs.declared.commands.TextSource.{TextSource}
+use Rattle.cn_words.specs.declared.without_certificate.RunWords.{RunWords}
 use Rattle.cn_io.specs.Arguments.Lives.{SpellLifeLists}
 use Rattle.cn_app.specs.Commands.Lives.{HasLivesReport}
 use Rattle.cn_io.specs.Streams.Reading.{HasRead}
@@ -20,7 +20,7 @@ use Rattle.cnum.specs.declared.lazy_file.LazyFile.{LazyFile}
 use Rattle.cnum.specs.declared.text_reader.TextReader.{TextReader}
 
 -- what the words ask for
-abbrev pub asked_by : LivesWords → AskedLives
+abbrev pub asked_by : RunWords → AskedLives
 asked_by words = record {
   processes = words.processes;
   steps = words.steps;
@@ -44,7 +44,7 @@ module _ {S D F W : Type 0} (remaining : S → Option (List ℕ)) (left : LazyFi
     pub reported : Reports contents (HasLivesReport after inputs schedule asked) u v r
 
   -- the lists are read first, from left to right
-  abbrev pub RunsLives : S → TextSource → LivesWords → Output W → Output W
+  abbrev pub RunsLives : S → TextSource → RunWords → Output W → Output W
       → Result Outcome AppFault → Type 0
   RunsLives stdin source words u v r =
       ReadsList {R = S} {C = S} remaining remaining left contents files words.inputs.now Inputs

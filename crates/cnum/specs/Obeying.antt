@@ -3,8 +3,10 @@ use Rattle.std.specs.Prelude.{◌≡◌, ℕ, List, Option, Result}
 use Rattle.cn_words.specs.declared.commands.Command.{Command}
 use Rattle.cn_words.specs.declared.commands.Invocation.{Invocation}
 use Rattle.cn_words.specs.declared.commands.Invocation.TheVariants.{Classify, Lives, OfTable}
+use Rattle.cn_words.specs.declared.commands.Invocation.TheVariants.{ShortestPlan, ShortestRun}
 use Rattle.cn_words.specs.declared.commands.TextSource.{TextSource}
-use Rattle.cn_words.specs.declared.lives.LivesWords.{LivesWords}
+use Rattle.cn_words.specs.declared.without_certificate.RunWords.{RunWords}
+use Rattle.cn_form.specs.declared.plan_form.PlanForm.{PlanForm}
 use Rattle.cn_io.specs.Streams.Writing.{IsUnwritten}
 use Rattle.cn_io.specs.declared.fault.AppFault.{AppFault}
 use Rattle.cn_io.specs.declared.report.Outcome.{Outcome}
@@ -14,6 +16,7 @@ use Rattle.cnum.specs.Exits.{classify_status, command_status}
 use Rattle.cnum.specs.LivesRuns.{RunsLives}
 use Rattle.cnum.specs.NamedTables.{ClassifiesSources, bytes_of}
 use Rattle.cnum.specs.Runs.{Runs}
+use Rattle.cnum.specs.ShortestRuns.{RunsShortest, ShowsShortest}
 use Rattle.cnum.specs.Texts.{left_of}
 use Rattle.cnum.specs.declared.awaited_input.AwaitedInput.{AwaitedInput}
 use Rattle.cnum.specs.declared.faults.Faults.{Faults}
@@ -32,9 +35,22 @@ module _ {S F D W : Type 0} (remaining : S → Option (List ℕ)) (left : LazyFi
       × (status ≡ command_status end)
 
   -- a plan was run by a schedule of steps and crashes, and the exit status is that of the result
-  abbrev pub RunsPlans : S → TextSource → LivesWords → Output W → Output W → ℕ → Type 0
+  abbrev pub RunsPlans : S → TextSource → RunWords → Output W → Output W → ℕ → Type 0
   RunsPlans stdin table words u v status = (end : Result Outcome AppFault)
       × RunsLives remaining left contents files stdin table words u v end
+      × (status ≡ command_status end)
+
+  -- the shortest plan was run by a schedule, with the status of the result
+  abbrev pub RunsShortestPlans : S → TextSource → RunWords → Output W → Output W → ℕ → Type 0
+  RunsShortestPlans stdin table words u v status = (end : Result Outcome AppFault)
+      × RunsShortest remaining left contents files stdin table words u v end
+      × (status ≡ command_status end)
+
+  -- the shortest plan was written, with the status of the result
+  abbrev pub ShowsShortestPlans : S → TextSource → Option ℕ → PlanForm → Output W → Output W
+      → ℕ → Type 0
+  ShowsShortestPlans stdin table processes form u v status = (end : Result Outcome AppFault)
+      × ShowsShortest remaining left contents files stdin table processes form u v end
       × (status ≡ command_status end)
 
   -- the tables of these sources were classified for the numbers asked for, and the exit status is
@@ -47,7 +63,8 @@ module _ {S F D W : Type 0} (remaining : S → Option (List ℕ)) (left : LazyFi
       sources asked u before v after first × (status ≡ classify_status first)
 
   -- what the words ask for is done: the tables that `classify` names are classified, a command of one
-  -- table is run, or a plan is run by a schedule of steps and crashes
+  -- table is run, a plan is run by a schedule of steps and crashes, or the shortest plan is run or
+  -- written
   abbrev pub Does : S → Invocation → Output W → Output W → ℕ → Type 0
   Does stdin (Classify limit recoverable without_read form tables) u v status = ClassifiesAll stdin
       (record {
@@ -58,6 +75,9 @@ module _ {S F D W : Type 0} (remaining : S → Option (List ℕ)) (left : LazyFi
       }) tables.items u v status
   Does stdin (OfTable table command) u v status = RunsOne stdin table command u v status
   Does stdin (Lives table words) u v status = RunsPlans stdin table words u v status
+  Does stdin (ShortestRun table words) u v status = RunsShortestPlans stdin table words u v status
+  Does stdin (ShortestPlan table processes form) u v status =
+      ShowsShortestPlans stdin table processes form u v status
 
 -- in the same terms: the command was done with these streams, of which nothing was used before, and
 -- the writer is handed back as the command left it; a reader over standard input read the command's

@@ -1,7 +1,7 @@
 //! Faults, hints and notes on standard error.
 use cn_app::commands::Tell;
 use cn_app::{AppFault, Known};
-use cn_words::{Command, LivesWords, TextSource};
+use cn_words::{Command, TextSource};
 
 /// Tells each fault in a line on standard error. The status of the program tells of it too, so that
 /// it is not lost where that stream is closed. A failed write is told at the [`end`](Faults::end),
@@ -93,10 +93,10 @@ pub fn known_of<'a>(table: TextSource<'a>, command: &Command<'a>) -> Known<'a> {
     known
 }
 
-/// What is known of a run of processes that crash and come back: how many there are, if a number
-/// was given.
-pub fn known_of_lives<'a>(table: TextSource<'a>, words: LivesWords<'a>) -> Known<'a> {
+/// What is known of a command of a plan without a certificate: how many processes there are, if a
+/// number was given.
+pub fn known_of_processes<'a>(table: TextSource<'a>, processes: Option<u8>) -> Known<'a> {
     let mut known = Known::of_files(file_of(table), None);
-    known.processes = words.processes;
+    known.processes = processes;
     known
 }

@@ -8,7 +8,7 @@ use crate::given_list::given_list;
 use crate::runs::{noting_table, text_of};
 use cn_app::reports::AskedLives;
 use cn_app::{AppFault, Argument, Known, Outcome, Output, commands};
-use cn_words::{LivesWords, TextSource};
+use cn_words::{RunWords, TextSource};
 use std::alloc::Global;
 use std::io::{Read, Write};
 use std::thread::Threads;
@@ -21,7 +21,7 @@ pub fn run_lives<T: Threads + Sync + Disk, S: Read + Copy + Drop, O: Write>(
     stdin: S,
     output: &mut Output<O>,
     table: TextSource<'_>,
-    words: LivesWords<'_>,
+    words: RunWords<'_>,
     known: &mut Known<'_>,
 ) -> Result<Outcome, AppFault>
     requires { IsWritable output.old }

@@ -8,7 +8,7 @@ ghost use Rattle.std.specs.Thread.{IsSync};
 ghost use Rattle.cn_io.specs.FaultText.{status_of};
 ghost use Rattle.cnum.specs.Exits.{classify_status, command_status};
 ghost use Rattle.cn_io.specs.Streams.Writing.{IsWritable};
-ghost use Rattle.cnum.specs.Obeying.{Does, Obeys};
+ghost use Rattle.cnum.specs.Obeying.{Does, Obeys, RunsShortestPlans, ShowsShortestPlans};
 ghost use Rattle.cnum.specs.Texts.{left_in};
 
 mod awaited_input;
@@ -19,18 +19,21 @@ mod lazy_file;
 mod lives_run;
 mod pipe_writer;
 mod runs;
+mod shortest_runs;
 mod text_reader;
 
 use awaited_input::{AwaitedInput, FirstRead};
 use cn_app::commands::Tell;
 use cn_app::reports::AskedNumbers;
 use cn_app::{AppFault, Known, Outcome, Output};
-use cn_words::{CommandFault, Invocation, Reply};
+use cn_form::PlanForm;
+use cn_words::{CommandFault, Invocation, Reply, RunWords, TextSource};
 use disk::Disk;
-use faults::{Faults, known_of, known_of_lives};
+use faults::{Faults, known_of, known_of_processes};
 use lives_run::run_lives;
 use pipe_writer::{PipeWriter, is_broken_pipe};
 use runs::{classify, run};
+use shortest_runs::{run_shortest, show_shortest};
 use std::alloc::Global;
 use std::io::{ErrorKind, IsTerminal, Read, Write};
 use std::process::ExitCode;
@@ -87,6 +90,47 @@ fn classify_exit<R: Eprint>(
     }
 }
 
+// Runs the shortest plan, and tells its faults; how the program ends.
+fn do_shortest_run<T: Disk + Eprint, I: Read + Copy + Drop, O: Write>(
+    rt: &T,
+    alloc: Global,
+    stdin: I,
+    output: &mut Output<O>,
+    faults: &mut Faults<'_, T>,
+    table: TextSource<'_>,
+    words: RunWords<'_>,
+) -> ExitCode
+    requires { IsWritable output.old }
+    ensures { RunsShortestPlans I.remaining (left_in T.contents T.Reader.remaining) O.contents
+        (T.contents rt.now) stdin table.entry words.entry output.old output.new
+        (exit_status result) }
+{
+    let mut known = known_of_processes(table, words.processes);
+    let end = run_shortest(rt, alloc, stdin, output, table, words, &mut known);
+    command_exit(faults, end, &known)
+}
+
+// Writes the shortest plan, and tells its faults; how the program ends.
+fn do_shortest_plan<T: Disk + Eprint, I: Read + Copy + Drop, O: Write>(
+    rt: &T,
+    alloc: Global,
+    stdin: I,
+    output: &mut Output<O>,
+    faults: &mut Faults<'_, T>,
+    table: TextSource<'_>,
+    processes: Option<u8>,
+    form: PlanForm,
+) -> ExitCode
+    requires { IsWritable output.old }
+    ensures { ShowsShortestPlans I.remaining (left_in T.contents T.Reader.remaining) O.contents
+        (T.contents rt.now) stdin table.entry processes form output.old output.new
+        (exit_status result) }
+{
+    let mut known = known_of_processes(table, processes);
+    let end = show_shortest(rt, alloc, stdin, output, table, processes, form, &mut known);
+    command_exit(faults, end, &known)
+}
+
 // Does a command, and tells its faults; how the program ends.
 fn do_command<T: Threads + Wait + Sync + Disk + Eprint, I: Read + Copy + Drop, O: Write>(
     rt: &T,
@@ -123,10 +167,18 @@ fn do_command<T: Threads + Wait + Sync + Disk + Eprint, I: Read + Copy + Drop, O
             command_exit(faults, end, &known)
         }
         Invocation::Lives { table, words } => {
-            let mut known = known_of_lives(*table, *words);
+            let mut known = known_of_processes(*table, words.processes);
             let end = run_lives(rt, alloc, stdin, output, *table, *words, &mut known);
             command_exit(faults, end, &known)
         }
+        Invocation::ShortestRun { table, words } => {
+            do_shortest_run(rt, alloc, stdin, output, faults, *table, *words)
+        }
+        Invocation::ShortestPlan {
+            table,
+            processes,
+            form,
+        } => do_shortest_plan(rt, alloc, stdin, output, faults, *table, *processes, *form),
     }
 }
 

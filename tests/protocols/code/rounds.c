@@ -1,7 +1,8 @@
-/* Rounds of threads that decide by the file consensus.c, over objects of the table in table.h: rounds ROUNDS
+/* Rounds of threads that decide by the file consensus.c, over objects of the table in table.h, as shape.h says: rounds ROUNDS
    After a second it goes on to LEAST rounds only, for a machine with other work. */
 #define _POSIX_C_SOURCE 200809L
 #include "consensus.c"
+#include "shape.h"
 #include "table.h"
 #include <pthread.h>
 #include <sched.h>
@@ -27,10 +28,12 @@ static unsigned apply(void *self, unsigned operation)
     return rows[operation][state][0];
 }
 
+#if READS
 static unsigned read_state(void *self)
 {
     return atomic_load((_Atomic unsigned char *)self);
 }
+#endif
 
 static time_t seconds(void)
 {
@@ -71,8 +74,8 @@ static void start(void)
     for (uint64_t round = 0; round < rounds; round++) {
         struct consensus_object objects[CONSENSUS_NODES];
         for (unsigned node = 0; node < CONSENSUS_NODES; node++) {
-            atomic_init(&cells[round * CONSENSUS_NODES + node], CONSENSUS_START);
-            objects[node] = (struct consensus_object){&cells[round * CONSENSUS_NODES + node], apply, read_state};
+            atomic_init(&cells[round * CONSENSUS_NODES + node], START(node));
+            objects[node] = (struct consensus_object)OBJECT(&cells[round * CONSENSUS_NODES + node]);
         }
         consensus_new(&all[round], objects);
     }

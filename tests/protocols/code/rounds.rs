@@ -1,9 +1,11 @@
-//! Rounds of threads that decide by the file consensus.rs, over objects of the table in table.rs: rounds ROUNDS
+//! Rounds of threads that decide by the file consensus.rs, over objects of the table in table.rs, as shape.rs says: rounds ROUNDS
 //! After a second it goes on to LEAST rounds only, for a machine with other work.
+#[macro_use]
+mod shape;
 mod consensus;
 mod table;
 
-use consensus::{Consensus, Object, PROCESSES, START};
+use consensus::{Consensus, Object, PROCESSES};
 use std::sync::atomic::{AtomicU64, AtomicU8, Ordering::SeqCst};
 use std::thread;
 use std::time::{Duration, Instant};
@@ -21,8 +23,10 @@ impl Object for Cell {
         row[usize::from(state)].0
     }
 
-    fn read(&self) -> usize {
-        usize::from(self.0.load(SeqCst))
+    if_read! {
+        fn read(&self) -> usize {
+            usize::from(self.0.load(SeqCst))
+        }
     }
 }
 
@@ -56,7 +60,7 @@ impl Shared {
 fn main() {
     let word = std::env::args().nth(1).expect("usage: rounds ROUNDS");
     let rounds: u64 = word.parse().expect("ROUNDS is a number");
-    let start = |_| Cell(AtomicU8::new(START as u8));
+    let start = |node| Cell(AtomicU8::new(shape::start(node) as u8));
     let all: Vec<_> = (0..rounds).map(|_| Consensus::new(std::array::from_fn(start))).collect();
     let (come, end) = (AtomicU64::new(0), AtomicU64::new(rounds));
     let late = Instant::now() + Duration::from_secs(1);

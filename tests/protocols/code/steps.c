@@ -1,5 +1,5 @@
-/* The next step of a process by the file consensus.c, after what it has observed: steps PROCESS VALUE OBSERVATION..
- * Without words it tells the numbers of processes and nodes, and the state in which each object starts. */
+/* The next step of a process by the file consensus.c, after what it has observed, as shape.h says: steps PROCESS VALUE OBSERVATION..
+ * Without words it tells the numbers of processes, of nodes and of registers of a node, and the state in which each object starts. */
 #include <stdint.h>
 #include <stdio.h>
 #include <stdlib.h>
@@ -11,6 +11,7 @@ static void atomic_store(uint64_t *place, uint64_t value);
 static uint64_t atomic_load(uint64_t *place);
 
 #include "consensus.c"
+#include "shape.h"
 
 static struct consensus one;
 static char **observations;
@@ -28,9 +29,9 @@ static uint64_t at_register(const char *step, const uint64_t *place)
 {
     char told[100];
     for (unsigned node = 0; node < CONSENSUS_NODES; node++)
-        for (unsigned team = 0; team < 2; team++)
+        for (unsigned team = 0; team < TEAMS; team++)
             if (place == &one.nodes[node].registers[team])
-                snprintf(told, sizeof told, "%s %c of node %u", step, "AB"[team], node);
+                snprintf(told, sizeof told, "%s %u of node %u", step, team, node);
     return observed(told);
 }
 
@@ -59,25 +60,29 @@ static unsigned apply(void *self, unsigned operation)
     return (unsigned)observed(told);
 }
 
+#if READS
 static unsigned read_state(void *self)
 {
     char told[100];
     snprintf(told, sizeof told, "reads at node %u", *(unsigned *)self);
     return (unsigned)observed(told);
 }
+#endif
 
 int main(int count, char **words)
 {
     unsigned nodes[CONSENSUS_NODES];
     struct consensus_object objects[CONSENSUS_NODES];
     if (count < 3) {
-        printf("%d %d %d\n", CONSENSUS_PROCESSES, CONSENSUS_NODES, CONSENSUS_START);
+        printf("%d %d %d", CONSENSUS_PROCESSES, CONSENSUS_NODES, TEAMS);
+        for (unsigned node = 0; node < CONSENSUS_NODES; node++)
+            printf(" %u", (unsigned)START(node));
         return 0;
     }
     observations = words + 3;
     for (unsigned node = 0; node < CONSENSUS_NODES; node++) {
         nodes[node] = node;
-        objects[node] = (struct consensus_object){&nodes[node], apply, read_state};
+        objects[node] = (struct consensus_object)OBJECT(&nodes[node]);
     }
     consensus_new(&one, objects);
     printf("decides %llu\n", (unsigned long long)consensus_decide(&one, (unsigned)atoi(words[1]), strtoull(words[2], NULL, 10)));

@@ -1,11 +1,14 @@
-//! The next step of a process by the file consensus.rs, after what it has observed: steps PROCESS VALUE OBSERVATION..
-//! Without words it tells the numbers of processes and nodes, and the state in which each object starts.
+//! The next step of a process by the file consensus.rs, after what it has observed, as shape.rs says: steps PROCESS VALUE OBSERVATION..
+//! Without words it tells the numbers of processes, of nodes and of registers of a node, and the state in which each object starts.
+#[macro_use]
+mod shape;
 mod consensus;
 
-use consensus::{Consensus, Object, NODES, PROCESSES, START};
+use consensus::{Consensus, Object, NODES, PROCESSES};
 
 /// What stands there for std's atomics, and for the objects.
 mod mock {
+    use crate::shape::TEAMS;
     use std::sync::atomic::{AtomicUsize, Ordering::Relaxed};
 
     pub struct SeqCst;
@@ -35,7 +38,7 @@ mod mock {
 
         /// The team and the node of the register.
         fn place(&self) -> String {
-            format!("{} of node {}", ["A", "B"][self.0 % 2], self.0 / 2)
+            format!("{} of node {}", self.0 % TEAMS, self.0 / TEAMS)
         }
 
         pub fn store(&self, value: u64, _: SeqCst) {
@@ -52,8 +55,10 @@ mod mock {
             observed(format!("applies {operation} at node {}", self.0)) as usize
         }
 
-        fn read(&self) -> usize {
-            observed(format!("reads at node {}", self.0)) as usize
+        if_read! {
+            fn read(&self) -> usize {
+                observed(format!("reads at node {}", self.0)) as usize
+            }
         }
     }
 }
@@ -61,7 +66,8 @@ mod mock {
 fn main() {
     let words: Vec<u64> = std::env::args().skip(1).map(|it| it.parse().unwrap()).collect();
     let [process, value, ..] = words[..] else {
-        mock::end(&format!("{PROCESSES} {NODES} {START}"));
+        let starts: Vec<_> = (0..NODES).map(|node| shape::start(node).to_string()).collect();
+        mock::end(&format!("{PROCESSES} {NODES} {} {}", shape::TEAMS, starts.join(" ")));
     };
     let one = Consensus::new(std::array::from_fn::<_, NODES, _>(mock::Mock));
     mock::end(&format!("decides {}", one.decide(process as usize, value)));

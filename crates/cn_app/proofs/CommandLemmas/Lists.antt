@@ -1,8 +1,9 @@
 -- Facts about lists hold for the same lists in a `Vec`.
-use Rattle.std.proofs.Common.{◌≡◌, ℕ, List, Result, subst}
+use Rattle.std.proofs.Common.{◌≡◌, ℕ, List, Option, Result, subst}
 use Rattle.cn_table.specs.TypeTable.{TypeTable}
 use Rattle.cn_lives.specs.declared.schedule.Event.{Event}
 use Rattle.cn_app.specs.Commands.Agree.{IsAgreeReport}
+use Rattle.cn_app.specs.Commands.AgreeShortest.{IsAgreeShortestReport}
 use Rattle.cn_app.specs.Commands.Lives.{IsLivesReport}
 use Rattle.cn_io.specs.declared.fault.AppFault.{AppFault}
 use Rattle.cn_io.specs.declared.readers.checked.Checked.{Checked}
@@ -17,3 +18,8 @@ agreed_as checked xs ys s t asked r inputs schedule h =
 pub lived_as : (t : TypeTable) (xs ys : List ℕ) (s u : List Event) (asked : AskedLives) (r : Result Report AppFault) → xs ≡ ys → s ≡ u → IsLivesReport t xs s asked r → IsLivesReport t ys u asked r
 lived_as t xs ys s u asked r inputs schedule h =
     subst (λ (l : List Event). IsLivesReport t ys l asked r) schedule (subst (λ (l : List ℕ). IsLivesReport t l s asked r) inputs h)
+
+pub shortest_as : (t : TypeTable) (n : Option ℕ) (xs ys s u : List ℕ) (asked : AskedRun) (r : Result Report AppFault) → xs ≡ ys → s ≡ u
+    → IsAgreeShortestReport t n xs s asked r → IsAgreeShortestReport t n ys u asked r
+shortest_as t n xs ys s u asked r inputs schedule h =
+    subst (λ (l : List ℕ). IsAgreeShortestReport t n ys l asked r) schedule (subst (λ (l : List ℕ). IsAgreeShortestReport t n l s asked r) inputs h)

@@ -1,34 +1,32 @@
 //! The words of C.
 ghost use Rattle.std.specs.Prelude.{◌≡◌};
-ghost use Rattle.cn_code.specs.CWords.{c_word};
+ghost use Rattle.cn_code.specs.CWords.{c_own_word, c_program_word, c_word};
 
-use crate::language::Part;
+use crate::language::c_tournament::{c_own_tournament_word, c_tournament_word};
+use crate::language::c_tree::{c_blind_word, c_look_word, c_tree_word};
+use crate::language::{Form, OwnPart, Part, ProgramPart};
 
-const PROCESSES: &str = "\
+const INTRO: &str = "\
 .
  *
- * cnum wrote this file. The processes meet in a tournament: each node has an object, and a
- * register for each of two teams. All processes decide one value, and one of them has proposed it.
- * This holds for every schedule, and if processes stop. A process takes four steps at each of its
- * places: at most 4 * (CONSENSUS_PROCESSES - 1) until it decides, whatever the others do. */
+ * cnum wrote this file. The processes meet ";
+
+const CLAIMS: &str = " All processes decide one value, and one of them has proposed it.
+ * This holds for every schedule, and if processes stop. A process takes ";
+
+const FIRST_USES: &str = " */
 #include <assert.h>
 #include <stdatomic.h>
+";
+
+const LAST_USES: &str = "\
 #include <stdint.h>
 
 #define CONSENSUS_LENGTH(list) (sizeof(list) / sizeof *(list))
 
-/* A team of a node. */
-enum consensus_team { TEAM_A, TEAM_B };
+";
 
-/* A place of a process: its node, and its team, role and operation there. */
-struct consensus_place {
-    unsigned process;
-    unsigned node;
-    enum consensus_team team;
-    unsigned role;
-    unsigned operation;
-};
-
+const PROCESSES: &str = "\
 /* The number of processes. */
 #define CONSENSUS_PROCESSES ";
 
@@ -55,23 +53,12 @@ const RESPONSES: &str = "\
 const char *const consensus_responses[] = {
 ";
 
-const PLACES: &str = "\
-};
-
-/* The tournament: the places of each process, from its lowest node to the root. */
+const PLACE_LINES: &str = "\
+: the places of each process, from its lowest node to the root. */
 static const struct consensus_place consensus_places[] = {
 ";
 
-const JUDGEMENTS: &str = "\
-};
-
-/* The judgements: for each role, response and state the team that came first at the node. The
- * comment names the response, and the states for which this is team A. */
-static const enum consensus_team consensus_judgements[CONSENSUS_PROCESSES]
-    [CONSENSUS_LENGTH(consensus_responses)][CONSENSUS_LENGTH(consensus_states)] = {
-";
-
-const PROGRAM: &str = "\
+const OBJECT: &str = "\
 };
 
 /* An object of the type. Threads share it. Each call is one atomic step, in the one order of all
@@ -80,14 +67,16 @@ struct consensus_object {
     void *self;
     /* Applies an operation, and returns the response. */
     unsigned (*apply)(void *self, unsigned operation);
-    /* Reads the state. */
-    unsigned (*read)(void *self);
-};
+";
 
-/* A node of the tournament. */
+const NODE_FIELDS: &str = "\
+. */
 struct consensus_node {
     struct consensus_object object;
-    _Atomic uint64_t registers[2];
+    _Atomic uint64_t registers[";
+
+const CONSENSUS: &str = "\
+];
 };
 
 /* One decision of all processes. */
@@ -95,14 +84,18 @@ struct consensus {
     struct consensus_node nodes[CONSENSUS_NODES];
 };
 
-/* Takes an object in the state CONSENSUS_START for each node. */
+/* Takes ";
+
+const NEW: &str = "\
+. */
 void consensus_new(struct consensus *consensus, const struct consensus_object objects[])
 {
     for (unsigned k = 0; k < CONSENSUS_NODES; k++) {
         struct consensus_node *node = &consensus->nodes[k];
         node->object = objects[k];
-        atomic_init(&node->registers[TEAM_A], 0);
-        atomic_init(&node->registers[TEAM_B], 0);
+        ";
+
+const DECIDE: &str = "
     }
 }
 
@@ -119,14 +112,20 @@ uint64_t consensus_decide(struct consensus *consensus, unsigned process, uint64_
             continue;
         struct consensus_node *node = &consensus->nodes[place->node];
         /* Step 1: write the value to the register of the own team. */
-        atomic_store(&node->registers[place->team], value);
+        atomic_store(&node->registers[place->team";
+
+const APPLY: &str = "\
+], value);
         /* Step 2: apply the operation to the object. */
         unsigned response = node->object.apply(node->object.self, place->operation);
-        /* Step 3: read the object. Response and state tell which team came first. */
-        unsigned state = node->object.read(node->object.self);
-        enum consensus_team first = consensus_judgements[place->role][response][state];
-        /* Step 4: read the register of that team. Go on with its value, or decide it. */
-        value = atomic_load(&node->registers[first]);
+        ";
+
+const TAKE: &str = "\
+: read the register of that team. Go on with its value, or decide it. */
+        value = atomic_load(&node->registers[first";
+
+const END: &str = "\
+]);
     }
     return value;
 }
@@ -138,31 +137,59 @@ pub(super) fn c_word(part: Part) -> &'static str
     match part {
         Part::Title => "/* Consensus among ",
         Part::TypeName => " processes through objects of the type ",
+        Part::Intro => INTRO,
+        Part::Claims => CLAIMS,
+        Part::FirstUses => FIRST_USES,
+        Part::LastUses => LAST_USES,
         Part::Processes => PROCESSES,
         Part::Nodes => NODES,
-        Part::Start => "\n\n/* The state in which each object starts: ",
-        Part::StartNumber => ". */\n#define CONSENSUS_START ",
         Part::States => STATES,
         Part::Operations => OPERATIONS,
         Part::Responses => RESPONSES,
         Part::Name => "    \"",
         Part::NameNumber => "\", /* ",
-        Part::Places => PLACES,
+        Part::Places => "};\n\n/* The ",
+        Part::PlaceLines => PLACE_LINES,
         Part::ProcessField => "    {.process = ",
         Part::NodeField => ", .node = ",
         Part::TeamField => ", .team = ",
-        Part::RoleField => ", .role = ",
         Part::OperationField => ", .operation = ",
         Part::OperationName => "}, /* ",
-        Part::Judgements => JUDGEMENTS,
-        Part::RoleNumber => "    /* role ",
-        Part::RoleOperation => ": ",
-        Part::RoleStart => " */\n    {\n",
-        Part::Row => "        {",
-        Part::Team => "TEAM_",
-        Part::ResponseName => "}, /* ",
-        Part::RoleEnd => "    },\n",
+        Part::JudgementStart => " */\n    {\n",
+        Part::JudgementEnd => "    },\n",
         Part::LineEnd => " */\n",
-        Part::Program => PROGRAM,
+        Part::Program(part) => c_program_word(part),
+        Part::InTournament(part) => c_tournament_word(part),
+        Part::InTree(part) => c_tree_word(part),
+        Part::Own(form, part) => c_own_word(form, part),
+    }
+}
+
+/// The objects, the registers and the algorithm.
+fn c_program_word(part: ProgramPart) -> &'static str
+    ensures { result.now ≡ c_program_word part }
+{
+    match part {
+        ProgramPart::Object => OBJECT,
+        ProgramPart::ObjectEnd => "};\n\n",
+        ProgramPart::Node => "/* A node of the ",
+        ProgramPart::NodeFields => NODE_FIELDS,
+        ProgramPart::Consensus => CONSENSUS,
+        ProgramPart::New => NEW,
+        ProgramPart::Decide => DECIDE,
+        ProgramPart::Apply => APPLY,
+        ProgramPart::Take => TAKE,
+        ProgramPart::End => END,
+    }
+}
+
+/// The words of a form.
+fn c_own_word(form: Form, part: OwnPart) -> &'static str
+    ensures { result.now ≡ c_own_word form part }
+{
+    match form {
+        Form::Tournament => c_own_tournament_word(part),
+        Form::LookTree => c_look_word(part),
+        Form::BlindTree => c_blind_word(part),
     }
 }

@@ -1,22 +1,26 @@
 //! The words of Rust.
 ghost use Rattle.std.specs.Prelude.{◌≡◌};
-ghost use Rattle.cn_code.specs.RustWords.{rust_word};
+ghost use Rattle.cn_code.specs.RustWords.{rust_own_word, rust_program_word, rust_word};
 
-use crate::language::Part;
+use crate::language::rust_tournament::{rust_own_tournament_word, rust_tournament_word};
+use crate::language::rust_tree::{rust_blind_word, rust_look_word, rust_tree_word};
+use crate::language::{Form, OwnPart, Part, ProgramPart};
 
-const PROCESSES: &str = "\
+const INTRO: &str = "\
 `.
 //!
-//! `cnum` wrote this file. The processes meet in a tournament: each node has an object, and a
-//! register for each of two teams. All processes decide one value, and one of them has proposed it.
-//! This holds for every schedule, and if processes stop. A process takes four steps at each of its
-//! places: at most `4 * (PROCESSES - 1)` until it decides, whatever the others do.
+//! `cnum` wrote this file. The processes meet ";
+
+const CLAIMS: &str = " All processes decide one value, and one of them has proposed it.
+//! This holds for every schedule, and if processes stop. A process takes ";
+
+const FIRST_USES: &str = "\n\
 #![forbid(unsafe_code)]
 #![allow(dead_code)]
 
-use self::Team::{A, B};
-use std::sync::atomic::{AtomicU64, Ordering::SeqCst};
+";
 
+const PROCESSES: &str = "\
 /// The number of processes.
 pub const PROCESSES: usize = ";
 
@@ -50,24 +54,13 @@ const RESPONSES: &str = "\
 pub const RESPONSES: &[&str] = &[
 ";
 
-const PLACES: &str = "\
-];
-
-/// The tournament: the places of each process, from its lowest node to the root.
+const PLACE_LINES: &str = "\
+: the places of each process, from its lowest node to the root.
 #[rustfmt::skip]
 const PLACES: &[Place] = &[
 ";
 
-const JUDGEMENTS: &str = "\
-];
-
-/// The judgements: for each role, response and state the team that came first at the node. The
-/// comment names the response, and the states for which this is team A.
-#[rustfmt::skip]
-const JUDGEMENTS: [[[Team; STATES.len()]; RESPONSES.len()]; PROCESSES] = [
-";
-
-const PROGRAM: &str = "\
+const OBJECT: &str = "\
 ];
 
 /// An object of the type. Threads share it. Each call is one atomic step, in the one order of all
@@ -75,31 +68,16 @@ const PROGRAM: &str = "\
 pub trait Object {
     /// Applies an operation, and returns the response.
     fn apply(&self, operation: usize) -> usize;
+";
 
-    /// Reads the state.
-    fn read(&self) -> usize;
-}
-
-/// A team of a node.
-#[derive(Clone, Copy)]
-enum Team {
-    A,
-    B,
-}
-
-/// A place of a process: its node, and its team, role and operation there.
-struct Place {
-    process: usize,
-    node: usize,
-    team: Team,
-    role: usize,
-    operation: usize,
-}
-
-/// A node of the tournament.
+const NODE_FIELDS: &str = "\
+.
 struct Node<O> {
     object: O,
-    registers: [AtomicU64; 2],
+    registers: [AtomicU64; ";
+
+const CONSENSUS: &str = "\
+],
 }
 
 /// One decision of all processes.
@@ -108,12 +86,18 @@ pub struct Consensus<O> {
 }
 
 impl<O: Object> Consensus<O> {
-    /// Takes an object in the state `START` for each node.
+    /// Takes ";
+
+const NEW: &str = "\
+.
     pub fn new(objects: [O; NODES]) -> Self {
         Consensus {
             nodes: objects.map(|object| Node {
                 object,
-                registers: [AtomicU64::new(0), AtomicU64::new(0)],
+                registers: ";
+
+const DECIDE: &str = "\
+,
             }),
         }
     }
@@ -131,14 +115,20 @@ impl<O: Object> Consensus<O> {
         for place in PLACES.iter().filter(|place| place.process == process) {
             let node = &self.nodes[place.node];
             // Step 1: write the value to the register of the own team.
-            node.registers[place.team as usize].store(value, SeqCst);
+            node.registers[place.team";
+
+const APPLY: &str = "\
+].store(value, SeqCst);
             // Step 2: apply the operation to the object.
             let response = node.object.apply(place.operation);
-            // Step 3: read the object. Response and state tell which team came first.
-            let state = node.object.read();
-            let first = JUDGEMENTS[place.role][response][state];
-            // Step 4: read the register of that team. Go on with its value, or decide it.
-            value = node.registers[first as usize].load(SeqCst);
+            ";
+
+const TAKE: &str = "\
+: read the register of that team. Go on with its value, or decide it.
+            value = node.registers[first";
+
+const END: &str = "\
+].load(SeqCst);
         }
         value
     }
@@ -151,31 +141,59 @@ pub(super) fn rust_word(part: Part) -> &'static str
     match part {
         Part::Title => "//! Consensus among ",
         Part::TypeName => " processes through objects of the type `",
+        Part::Intro => INTRO,
+        Part::Claims => CLAIMS,
+        Part::FirstUses => FIRST_USES,
+        Part::LastUses => "use std::sync::atomic::{AtomicU64, Ordering::SeqCst};\n\n",
         Part::Processes => PROCESSES,
         Part::Nodes => NODES,
-        Part::Start => ";\n\n/// The state in which each object starts: `",
-        Part::StartNumber => "`.\npub const START: usize = ",
         Part::States => STATES,
         Part::Operations => OPERATIONS,
         Part::Responses => RESPONSES,
         Part::Name => "    \"",
         Part::NameNumber => "\", // ",
-        Part::Places => PLACES,
+        Part::Places => "];\n\n/// The ",
+        Part::PlaceLines => PLACE_LINES,
         Part::ProcessField => "    Place { process: ",
         Part::NodeField => ", node: ",
         Part::TeamField => ", team: ",
-        Part::RoleField => ", role: ",
         Part::OperationField => ", operation: ",
         Part::OperationName => " }, // ",
-        Part::Judgements => JUDGEMENTS,
-        Part::RoleNumber => "    // role ",
-        Part::RoleOperation => ": ",
-        Part::RoleStart => "\n    [\n",
-        Part::Row => "        [",
-        Part::Team => "",
-        Part::ResponseName => "], // ",
-        Part::RoleEnd => "    ],\n",
+        Part::JudgementStart => "\n    [\n",
+        Part::JudgementEnd => "    ],\n",
         Part::LineEnd => "\n",
-        Part::Program => PROGRAM,
+        Part::Program(part) => rust_program_word(part),
+        Part::InTournament(part) => rust_tournament_word(part),
+        Part::InTree(part) => rust_tree_word(part),
+        Part::Own(form, part) => rust_own_word(form, part),
+    }
+}
+
+/// The objects, the registers and the algorithm.
+fn rust_program_word(part: ProgramPart) -> &'static str
+    ensures { result.now ≡ rust_program_word part }
+{
+    match part {
+        ProgramPart::Object => OBJECT,
+        ProgramPart::ObjectEnd => "}\n\n",
+        ProgramPart::Node => "/// A node of the ",
+        ProgramPart::NodeFields => NODE_FIELDS,
+        ProgramPart::Consensus => CONSENSUS,
+        ProgramPart::New => NEW,
+        ProgramPart::Decide => DECIDE,
+        ProgramPart::Apply => APPLY,
+        ProgramPart::Take => TAKE,
+        ProgramPart::End => END,
+    }
+}
+
+/// The words of a form.
+fn rust_own_word(form: Form, part: OwnPart) -> &'static str
+    ensures { result.now ≡ rust_own_word form part }
+{
+    match form {
+        Form::Tournament => rust_own_tournament_word(part),
+        Form::LookTree => rust_look_word(part),
+        Form::BlindTree => rust_blind_word(part),
     }
 }

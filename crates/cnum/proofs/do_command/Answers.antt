@@ -16,3 +16,11 @@ returns-in-OfTable g c = rw c.in-OfTable.is (c.run-end.result, c.run-end.ensures
 pub returns-in-Lives : goal.returns-in-Lives
 returns-in-Lives g c =
     rw c.in-Lives.is (c.run_lives-end.result, c.run_lives-end.ensures, c.command_exit-in-Lives.ensures)
+
+pub returns-in-ShortestRun : goal.returns-in-ShortestRun
+returns-in-ShortestRun g c =
+    rw c.in-ShortestRun.is c.do_shortest_run.ensures
+
+pub returns-in-ShortestPlan : goal.returns-in-ShortestPlan
+returns-in-ShortestPlan g c =
+    rw c.in-ShortestPlan.is c.do_shortest_plan.ensures

@@ -1,16 +1,10 @@
-use Rattle.std.proofs.Common.{◌∙◌, ◌++◌, subst}
+use Rattle.std.proofs.Common.{subst}
+use Rattle.std.specs.Prelude.{IsTrue}
 use Rattle.std.specs.List.{list_all}
-use Rattle.std.proofs.lemmas.Bool.{and_from}
-use Rattle.std.proofs.lemmas.List.Folds.{list_all-append}
 use Rattle.cn_table.specs.Names.{is_name}
-use Rattle.cn_table.specs.TypeTable.{IsTypeTable, operation_names}
+use Rattle.cn_table.specs.TypeTable.{TypeTable}
+use Rattle.cn_code.specs.Frame.{names_in}
 use Rattle.cn_code.proofs.laws.names_are_plain.Goals as goal
 
 pub returns : goal.returns
-returns c =
-    let t = c.args.plan.now.table in
-    let known = subst IsTypeTable c.table.ensures c.states-known.ensures.table in
-    and_from (is_name t.name) _ known.name
-    (list_all-append is_name (t.states ++ operation_names t) t.responses
-    ∙ and_from (list_all is_name (t.states ++ operation_names t)) _
-    (list_all-append is_name t.states (operation_names t) ∙ and_from (list_all is_name t.states) _ known.states.named known.operations.named) known.responses.named)
+returns c = subst (λ (t : TypeTable). IsTrue (list_all is_name (names_in t))) c.table.ensures c.names_of_tables_are_plain.ensures

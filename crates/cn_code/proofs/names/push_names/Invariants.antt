@@ -1,6 +1,6 @@
 use Rattle.std.proofs.Common.{◌≡◌, ◌++◌, flat_map, string_bytes}
 use Rattle.std.specs.List.{range_with_len}
-use Rattle.cn_code.specs.Code.{name_line, names_of}
+use Rattle.cn_code.specs.Frame.{name_line, names_of}
 use Rattle.cn_code.proofs.names.push_names.Given as goal
 
 -- the names so far

@@ -6,7 +6,7 @@ use Rattle.cn_tree_costs.specs.Sizes.{price}
 use Rattle.cn_shortest.specs.Loads.{load_of, root_with, table_of}
 use Rattle.cn_shortest.specs.declared.sizes.Sizes.{Sizes}
 use Rattle.cn_shortest.proofs.Elements.{below_or_last, contains_mapped, mapped_at, no_sizes}
-use Rattle.cn_shortest.proofs.Lesser.{at_most_trans}
+use Rattle.cn_tree_costs.proofs.Loads.{at_most_trans}
 use Rattle.cn_shortest.proofs.loads.least_of.Goals as goal
 
 pub returns-then-budget-price : goal.returns-then-budget-price

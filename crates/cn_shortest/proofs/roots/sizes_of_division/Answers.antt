@@ -2,7 +2,7 @@ use Rattle.std.proofs.Common.{ℕ, List, ◌≤◌, ◌<◌, arith, sym, subst, 
 use Rattle.std.specs.Prelude.{All}
 use Rattle.std.proofs.lemmas.List.Elements.{All-weaker}
 use Rattle.cn_shortest.specs.Sizes.{AreCounts}
-use Rattle.cn_shortest.proofs.Numbers.{fewer_each, long_sum}
+use Rattle.cn_tree_costs.proofs.Numbers.{fewer_each, long_sum}
 use Rattle.cn_shortest.proofs.roots.sizes_of_division.Goals as goal
 
 pub count-requires-clause-few : goal.count-requires-clause-few

@@ -1,6 +1,6 @@
 use Rattle.std.proofs.Common.{arith, sym, ◌∙◌, true≢false}
+use Rattle.cn_views.proofs.SetLoops.{number_in, number_out}
 use Rattle.cn_signs.specs.SignChecks.{IsEnd}
-use Rattle.cn_signs.proofs.Sets.{number_in, number_out}
 use Rattle.cn_signs.proofs.ends.ends_of.Goals as goal
 use Rattle.cn_signs.proofs.ends.ends_of.Goals.{then-is_end, else-is_end}
 

@@ -1,5 +1,5 @@
+use Rattle.cn_views.proofs.SetLoops.{HasBelow}
 use Rattle.cn_signs.specs.SignChecks.{IsEnd}
-use Rattle.cn_signs.proofs.Sets.{HasBelow}
 use Rattle.cn_signs.proofs.ends.ends_of.Given as goal
 
 -- the ends so far

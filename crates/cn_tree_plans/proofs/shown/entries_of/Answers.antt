@@ -1,7 +1,7 @@
 use Rattle.std.proofs.Common.{List, arith, subst, sym, true≢false, ℕ, ◌∙◌}
+use Rattle.cn_tree_costs.proofs.Numbers.{long_sum}
 use Rattle.cn_tree_plans.specs.Listing.{SomeMeet}
 use Rattle.cn_tree_plans.proofs.ListingLemmas.{entries_are, meets_shown}
-use Rattle.cn_tree_plans.proofs.SizeLemmas.{least_sum}
 use Rattle.cn_tree_plans.proofs.shown.entries_of.Goals as goal
 
 pub returns-then-some_meet : goal.returns-then-some_meet
@@ -12,7 +12,7 @@ returns-then-some_meet c =
 pub entries-requires-clause-few : goal.entries-requires-clause-few
 entries-requires-clause-few c =
     rw c.deref-2.ensures.value
-    (omega (arith, c.in_ok-sets.ensures.count, least_sum c.args.sizes.now c.requires.sizes.inhabited, c.requires.sizes.whole, c.requires.meeting.few))
+    (omega (arith, c.in_ok-sets.ensures.count, long_sum c.args.sizes.now c.requires.sizes.inhabited, c.requires.sizes.whole, c.requires.meeting.few))
 
 pub returns : goal.returns
 returns c =

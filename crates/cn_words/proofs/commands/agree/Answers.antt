@@ -29,6 +29,6 @@ returns c = (
     c.in_ok-list-2.ensures,
     flag_read (found_of c.args.words.now) (codes "steps") c.get_flag.result c.get_flag.ensures.none c.get_flag.ensures.value c.get_flag.ensures.other,
     c.in_ok-answer_form.ensures,
-    sym c.is_of_lives.ensures ∙ c.if-is_of_lives.false,
+    sym c.excludes_certificate.ensures ∙ c.if-excludes_certificate.false,
   ),
 )

@@ -1,17 +1,22 @@
-use Rattle.std.proofs.Common.{refl}
+use Rattle.std.proofs.Common.{◌≡◌, ◌∙◌, false, refl, sym, true}
 use Rattle.cn_words.specs.GivenCommands.{rows_in}
 use Rattle.cn_words.proofs.GivenLemmas.{lives_wants}
 use Rattle.cn_words.proofs.commands.lives_run.Goals as goal
 
-pub returns-in_err-lives_table : goal.returns-in_err-lives_table
-returns-in_err-lives_table c = rw c.from_residual.ensures (λ invocation is.
+pub returns-then-is_flag_set : goal.returns-then-is_flag_set
+returns-then-is_flag_set c = λ invocation is.
     let w = lives_wants (rows_in c.args.words.now) invocation c.requires is in
-    c.in_err-lives_table.ensures w.0.0 w.0.1)
+    let bad : true ≡ false = sym c.if-is_flag_set.true ∙ (c.is_flag_set.ensures ∙ w.0) in cc
 
-pub returns-in_err-lives : goal.returns-in_err-lives
-returns-in_err-lives c = rw c.from_residual-in_err-lives.ensures (λ invocation is.
+pub returns-in_err-run_table : goal.returns-in_err-run_table
+returns-in_err-run_table c = rw c.from_residual.ensures (λ invocation is.
     let w = lives_wants (rows_in c.args.words.now) invocation c.requires is in
-    c.in_err-lives.ensures w.1.0 w.1.1)
+    c.in_err-run_table.ensures w.1.0 w.1.1)
+
+pub returns-in_err-run_words : goal.returns-in_err-run_words
+returns-in_err-run_words c = rw c.from_residual-in_err-run_words.ensures (λ invocation is.
+    let w = lives_wants (rows_in c.args.words.now) invocation c.requires is in
+    c.in_err-run_words.ensures w.2.0 w.2.1)
 
 pub returns : goal.returns
-returns c = (refl, c.requires, c.in_ok-lives_table.ensures, c.in_ok-lives.ensures)
+returns c = (refl, c.requires, sym c.is_flag_set.ensures ∙ c.if-is_flag_set.false, c.in_ok-run_table.ensures, c.in_ok-run_words.ensures)

@@ -1,4 +1,4 @@
-use Rattle.std.proofs.Common.{ap, sym}
+use Rattle.std.proofs.Common.{◌∙◌, ap, sym}
 use Rattle.cn_code.specs.RustWords.{rust_word}
 use Rattle.cn_code.proofs.language.rust.rust_word.Goals as goal
 
@@ -10,6 +10,22 @@ pub returns-in-TypeName : goal.returns-in-TypeName
 unfolding rust_word
 returns-in-TypeName c = sym (ap rust_word c.in-TypeName.is)
 
+pub returns-in-Intro : goal.returns-in-Intro
+unfolding rust_word
+returns-in-Intro c = sym (ap rust_word c.in-Intro.is)
+
+pub returns-in-Claims : goal.returns-in-Claims
+unfolding rust_word
+returns-in-Claims c = sym (ap rust_word c.in-Claims.is)
+
+pub returns-in-FirstUses : goal.returns-in-FirstUses
+unfolding rust_word
+returns-in-FirstUses c = sym (ap rust_word c.in-FirstUses.is)
+
+pub returns-in-LastUses : goal.returns-in-LastUses
+unfolding rust_word
+returns-in-LastUses c = sym (ap rust_word c.in-LastUses.is)
+
 pub returns-in-Processes : goal.returns-in-Processes
 unfolding rust_word
 returns-in-Processes c = sym (ap rust_word c.in-Processes.is)
@@ -17,14 +33,6 @@ returns-in-Processes c = sym (ap rust_word c.in-Processes.is)
 pub returns-in-Nodes : goal.returns-in-Nodes
 unfolding rust_word
 returns-in-Nodes c = sym (ap rust_word c.in-Nodes.is)
-
-pub returns-in-Start : goal.returns-in-Start
-unfolding rust_word
-returns-in-Start c = sym (ap rust_word c.in-Start.is)
-
-pub returns-in-StartNumber : goal.returns-in-StartNumber
-unfolding rust_word
-returns-in-StartNumber c = sym (ap rust_word c.in-StartNumber.is)
 
 pub returns-in-States : goal.returns-in-States
 unfolding rust_word
@@ -50,6 +58,10 @@ pub returns-in-Places : goal.returns-in-Places
 unfolding rust_word
 returns-in-Places c = sym (ap rust_word c.in-Places.is)
 
+pub returns-in-PlaceLines : goal.returns-in-PlaceLines
+unfolding rust_word
+returns-in-PlaceLines c = sym (ap rust_word c.in-PlaceLines.is)
+
 pub returns-in-ProcessField : goal.returns-in-ProcessField
 unfolding rust_word
 returns-in-ProcessField c = sym (ap rust_word c.in-ProcessField.is)
@@ -62,10 +74,6 @@ pub returns-in-TeamField : goal.returns-in-TeamField
 unfolding rust_word
 returns-in-TeamField c = sym (ap rust_word c.in-TeamField.is)
 
-pub returns-in-RoleField : goal.returns-in-RoleField
-unfolding rust_word
-returns-in-RoleField c = sym (ap rust_word c.in-RoleField.is)
-
 pub returns-in-OperationField : goal.returns-in-OperationField
 unfolding rust_word
 returns-in-OperationField c = sym (ap rust_word c.in-OperationField.is)
@@ -74,37 +82,13 @@ pub returns-in-OperationName : goal.returns-in-OperationName
 unfolding rust_word
 returns-in-OperationName c = sym (ap rust_word c.in-OperationName.is)
 
-pub returns-in-Judgements : goal.returns-in-Judgements
+pub returns-in-JudgementStart : goal.returns-in-JudgementStart
 unfolding rust_word
-returns-in-Judgements c = sym (ap rust_word c.in-Judgements.is)
+returns-in-JudgementStart c = sym (ap rust_word c.in-JudgementStart.is)
 
-pub returns-in-RoleNumber : goal.returns-in-RoleNumber
+pub returns-in-JudgementEnd : goal.returns-in-JudgementEnd
 unfolding rust_word
-returns-in-RoleNumber c = sym (ap rust_word c.in-RoleNumber.is)
-
-pub returns-in-RoleOperation : goal.returns-in-RoleOperation
-unfolding rust_word
-returns-in-RoleOperation c = sym (ap rust_word c.in-RoleOperation.is)
-
-pub returns-in-RoleStart : goal.returns-in-RoleStart
-unfolding rust_word
-returns-in-RoleStart c = sym (ap rust_word c.in-RoleStart.is)
-
-pub returns-in-Row : goal.returns-in-Row
-unfolding rust_word
-returns-in-Row c = sym (ap rust_word c.in-Row.is)
-
-pub returns-in-Team : goal.returns-in-Team
-unfolding rust_word
-returns-in-Team c = sym (ap rust_word c.in-Team.is)
-
-pub returns-in-ResponseName : goal.returns-in-ResponseName
-unfolding rust_word
-returns-in-ResponseName c = sym (ap rust_word c.in-ResponseName.is)
-
-pub returns-in-RoleEnd : goal.returns-in-RoleEnd
-unfolding rust_word
-returns-in-RoleEnd c = sym (ap rust_word c.in-RoleEnd.is)
+returns-in-JudgementEnd c = sym (ap rust_word c.in-JudgementEnd.is)
 
 pub returns-in-LineEnd : goal.returns-in-LineEnd
 unfolding rust_word
@@ -112,4 +96,16 @@ returns-in-LineEnd c = sym (ap rust_word c.in-LineEnd.is)
 
 pub returns-in-Program : goal.returns-in-Program
 unfolding rust_word
-returns-in-Program c = sym (ap rust_word c.in-Program.is)
+returns-in-Program c = c.rust_program_word.ensures ∙ sym (ap rust_word c.in-Program.is)
+
+pub returns-in-InTournament : goal.returns-in-InTournament
+unfolding rust_word
+returns-in-InTournament c = c.rust_tournament_word.ensures ∙ sym (ap rust_word c.in-InTournament.is)
+
+pub returns-in-InTree : goal.returns-in-InTree
+unfolding rust_word
+returns-in-InTree c = c.rust_tree_word.ensures ∙ sym (ap rust_word c.in-InTree.is)
+
+pub returns-in-Own : goal.returns-in-Own
+unfolding rust_word
+returns-in-Own c = c.rust_own_word.ensures ∙ sym (ap rust_word c.in-Own.is)

@@ -1,0 +1,43 @@
+use Rattle.std.proofs.Common.{ap, sym}
+use Rattle.cn_code.specs.CWords.{c_program_word}
+use Rattle.cn_code.proofs.language.c.c_program_word.Goals as goal
+
+pub returns-in-Object : goal.returns-in-Object
+unfolding c_program_word
+returns-in-Object c = sym (ap c_program_word c.in-Object.is)
+
+pub returns-in-ObjectEnd : goal.returns-in-ObjectEnd
+unfolding c_program_word
+returns-in-ObjectEnd c = sym (ap c_program_word c.in-ObjectEnd.is)
+
+pub returns-in-Node : goal.returns-in-Node
+unfolding c_program_word
+returns-in-Node c = sym (ap c_program_word c.in-Node.is)
+
+pub returns-in-NodeFields : goal.returns-in-NodeFields
+unfolding c_program_word
+returns-in-NodeFields c = sym (ap c_program_word c.in-NodeFields.is)
+
+pub returns-in-Consensus : goal.returns-in-Consensus
+unfolding c_program_word
+returns-in-Consensus c = sym (ap c_program_word c.in-Consensus.is)
+
+pub returns-in-New : goal.returns-in-New
+unfolding c_program_word
+returns-in-New c = sym (ap c_program_word c.in-New.is)
+
+pub returns-in-Decide : goal.returns-in-Decide
+unfolding c_program_word
+returns-in-Decide c = sym (ap c_program_word c.in-Decide.is)
+
+pub returns-in-Apply : goal.returns-in-Apply
+unfolding c_program_word
+returns-in-Apply c = sym (ap c_program_word c.in-Apply.is)
+
+pub returns-in-Take : goal.returns-in-Take
+unfolding c_program_word
+returns-in-Take c = sym (ap c_program_word c.in-Take.is)
+
+pub returns-in-End : goal.returns-in-End
+unfolding c_program_word
+returns-in-End c = sym (ap c_program_word c.in-End.is)

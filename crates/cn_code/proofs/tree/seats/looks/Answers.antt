@@ -1,0 +1,5 @@
+use Rattle.std.proofs.Common.{sym}
+use Rattle.cn_code.proofs.tree.seats.looks.Goals as goal
+
+pub returns : goal.returns
+returns c = sym (c.reads.ensures c.args.seat.process)

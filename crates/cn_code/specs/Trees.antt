@@ -1,0 +1,182 @@
+-- The program of a plan tree: what all programs have in common, and between its parts what is of the
+-- plan.
+use Rattle.std.specs.Prelude.{ℕ, Bool, true, false, List, ◌++◌, length, codes, decimal, flat_map}
+use Rattle.std.specs.Prelude.{if◌then◌else◌, slice_index_or, []}
+use Rattle.std.specs.List.{range_with_len}
+use Rattle.cn_table.specs.Names.{name_at}
+use Rattle.cn_table.specs.TypeTable.{operation_names}
+use Rattle.cn_trees.specs.Tree.{Place, nodes_of, path_of, place_of, processes_of}
+use Rattle.cn_tree_costs.specs.Cost.{cost, greatest}
+use Rattle.cn_tree_costs.specs.Nodes.{node_at}
+use Rattle.cn_tree_costs.specs.Sizes.{sizes_of}
+use Rattle.cn_tree_plans.specs.Plan.{TreePlan, no_meeting, tree_of}
+use Rattle.cn_code.specs.Frame.{all_names, comma, number_code, numbers_code, own_word, places_word}
+use Rattle.cn_code.specs.Frame.{program_code, text_code, word}
+use Rattle.cn_code.specs.TreeJudgements.{columns, judges_of, looks, number_among, seat_of, some_look, team_first}
+use Rattle.cn_code.specs.declared.language.Form.{Form}
+use Rattle.cn_code.specs.declared.language.Form.TheVariants.{LookTree, BlindTree}
+use Rattle.cn_code.specs.declared.language.Language.{Language}
+use Rattle.cn_code.specs.declared.language.Language.TheVariants.{Rust, C}
+use Rattle.cn_code.specs.declared.language.OwnPart.TheVariants.{Judgements, Row, ResponseName}
+use Rattle.cn_code.specs.declared.language.Part.TheVariants.{ProcessField, NodeField, TeamField}
+use Rattle.cn_code.specs.declared.language.Part.TheVariants.{OperationField, OperationName}
+use Rattle.cn_code.specs.declared.language.Part.TheVariants.{JudgementStart, JudgementEnd, LineEnd}
+use Rattle.cn_code.specs.declared.language.Part.TheVariants.{InTree, Own}
+use Rattle.cn_code.specs.declared.language.TreePart.TheVariants.{Teams, Steps, Starts, StartState}
+use Rattle.cn_code.specs.declared.language.TreePart.TheVariants.{StartNode, StartName, LooksField}
+use Rattle.cn_code.specs.declared.language.TreePart.TheVariants.{JudgementField, JudgementNumber}
+use Rattle.cn_code.specs.declared.tree.seats.Seat.{Seat}
+
+-- the form of the program of a plan tree
+abbrev pub form_of : TreePlan → Form
+form_of plan = if some_look plan then LookTree else BlindTree
+
+-- ---- the head
+
+-- the number of teams of node v
+abbrev pub teams_at : TreePlan → ℕ → ℕ
+teams_at plan v = length (sizes_of (node_at plan.teams v).teams)
+
+abbrev pub most_teams : TreePlan → ℕ
+most_teams plan = greatest (teams_at plan) (nodes_of (tree_of plan))
+
+-- the most teams of a node, and the most steps of a process
+abbrev pub bounds_code : Language → TreePlan → List ℕ
+bounds_code l plan =
+    number_code l (InTree Teams) (most_teams plan) ++ number_code l (InTree Steps) (cost (tree_of plan)).steps
+
+-- the type, the numbers of processes and nodes, and the bounds
+abbrev pub tree_head : Language → TreePlan → List ℕ
+tree_head l plan =
+    numbers_code l (form_of plan) plan.table.name (processes_of (tree_of plan))
+    (nodes_of (tree_of plan))
+    ++ bounds_code l plan
+
+-- ---- start states
+
+abbrev pub start_at : TreePlan → ℕ → ℕ
+start_at plan v = (slice_index_or plan.meetings v no_meeting).start
+
+-- the state in which the object of node v starts, and in a comment the node and the name of the state
+abbrev pub start_line : Language → TreePlan → ℕ → List ℕ
+start_line l plan v =
+    number_code l (InTree StartState) (start_at plan v) ++ number_code l (InTree StartNode) v
+    ++ text_code l (InTree StartName) (name_at plan.table.states (start_at plan v)) ++ word l LineEnd
+
+abbrev pub starts_code : Language → TreePlan → List ℕ
+starts_code l plan =
+    word l (InTree Starts)
+    ++ flat_map (start_line l plan) (range_with_len 0 (nodes_of (tree_of plan)))
+
+-- ---- places
+
+abbrev pub truth : Bool → List ℕ
+truth true = codes "true"
+truth false = codes "false"
+
+-- whether a process looks, unless none does
+abbrev pub looks_code : Language → TreePlan → Seat → List ℕ
+looks_code l plan x =
+    if some_look plan then text_code l (InTree LooksField) (truth (looks plan x)) else []
+
+-- a process, its node and its team there
+abbrev pub tree_stand : Language → ℕ → Place → List ℕ
+tree_stand l p place =
+    number_code l ProcessField p ++ number_code l NodeField place.node
+    ++ number_code l TeamField place.team
+
+abbrev pub operation_of : TreePlan → Seat → ℕ
+operation_of plan x = ((tree_of plan).meeting x.node).operation x.process
+
+-- its judgement, and in a comment the name of its operation
+abbrev pub judged_code : Language → TreePlan → List Seat → Seat → List ℕ
+judged_code l plan judges x =
+    number_code l (InTree JudgementField) (number_among plan judges x)
+    ++ text_code l OperationName (name_at (operation_names plan.table) (operation_of plan x))
+    ++ word l LineEnd
+
+-- its operation, whether it looks, and its judgement
+abbrev pub tree_act : Language → TreePlan → List Seat → Seat → List ℕ
+tree_act l plan judges x =
+    number_code l OperationField (operation_of plan x) ++ looks_code l plan x
+    ++ judged_code l plan judges x
+
+-- place i of the path of process p
+abbrev pub tree_place : Language → TreePlan → List Seat → ℕ → ℕ → List ℕ
+tree_place l plan judges p i =
+    tree_stand l p (place_of (tree_of plan) p i) ++ tree_act l plan judges (seat_of plan p i)
+
+abbrev pub tree_path : Language → TreePlan → List Seat → ℕ → List ℕ
+tree_path l plan judges p =
+    flat_map (tree_place l plan judges p)
+    (range_with_len 0 (length (path_of (tree_of plan) p)))
+
+abbrev pub tree_places : Language → TreePlan → List Seat → List ℕ
+tree_places l plan judges =
+    places_word l (form_of plan)
+    ++ flat_map (tree_path l plan judges) (range_with_len 0 (processes_of (tree_of plan)))
+
+-- ---- judgements
+
+abbrev pub tree_cell : TreePlan → Seat → ℕ → ℕ → List ℕ
+tree_cell plan x response state = comma state ++ decimal (team_first plan x response state)
+
+-- the teams for all states by which a process judges
+abbrev pub tree_cells : TreePlan → Seat → ℕ → List ℕ
+tree_cells plan x response =
+    flat_map (tree_cell plan x response) (range_with_len 0 (columns plan x))
+
+-- the teams for a response, and in a comment its name
+abbrev pub tree_row : Language → TreePlan → Seat → ℕ → List ℕ
+tree_row l plan x response =
+    own_word l (form_of plan) Row ++ tree_cells plan x response
+    ++ text_code l (Own (form_of plan) ResponseName) (name_at plan.table.responses response)
+    ++ word l LineEnd
+
+abbrev pub tree_rows : Language → TreePlan → Seat → List ℕ
+tree_rows l plan x =
+    flat_map (tree_row l plan x) (range_with_len 0 (length plan.table.responses))
+
+-- the judgement of a process, with its number in a comment
+abbrev pub judgement_code : Language → TreePlan → Seat → ℕ → List ℕ
+judgement_code l plan x number =
+    number_code l (InTree JudgementNumber) number ++ word l JudgementStart
+    ++ tree_rows l plan x ++ word l JudgementEnd
+
+abbrev pub no_seat : Seat
+no_seat = record { node = 0; process = 0 }
+
+abbrev pub judgement_at : Language → TreePlan → List Seat → ℕ → List ℕ
+judgement_at l plan judges number =
+    judgement_code l plan (slice_index_or judges number no_seat) number
+
+abbrev pub tree_judgements : Language → TreePlan → List Seat → List ℕ
+tree_judgements l plan judges =
+    own_word l (form_of plan) Judgements
+    ++ flat_map (judgement_at l plan judges) (range_with_len 0 (length judges))
+
+-- ---- the program
+
+-- the names of the type, and the start states
+abbrev pub tree_names : Language → TreePlan → List ℕ
+tree_names l plan = all_names l plan.table ++ starts_code l plan
+
+-- the places and the judgements, and the algorithm
+abbrev pub tree_tables : Language → TreePlan → List Seat → List ℕ
+tree_tables l plan judges =
+    tree_places l plan judges ++ tree_judgements l plan judges ++ program_code l (form_of plan)
+
+-- the program, with these judgements
+abbrev pub text_with : Language → TreePlan → List Seat → List ℕ
+text_with l plan judges = tree_head l plan ++ tree_names l plan ++ tree_tables l plan judges
+
+unfoldable pub tree_text : Language → TreePlan → List ℕ
+tree_text l plan = text_with l plan (judges_of plan)
+
+-- the program in Rust
+abbrev pub tree_rust_text : TreePlan → List ℕ
+tree_rust_text plan = tree_text Rust plan
+
+-- the program in C
+abbrev pub tree_c_text : TreePlan → List ℕ
+tree_c_text plan = tree_text C plan

@@ -1,0 +1,82 @@
+//! The words of plans without a certificate: `agree --recoverable`, `agree --shortest` and
+//! `show --shortest`.
+ghost use Rattle.std.specs.Prelude.{◌≡◌};
+ghost use Rattle.cn_words.specs.GivenCommands.{Finds, HasPlanTable, HasRun, HasRunTable};
+ghost use Rattle.cn_words.specs.GivenCommands.{excludes_certificate, is_flag_set, rows_in};
+
+use crate::commands::{TextSource, answer_form, list, optional_number, table_word, word};
+use clap::ArgMatches;
+use cn_form::AnswerForm;
+
+/// The words for a run of a plan without a certificate.
+#[derive(Clone, Copy)]
+pub struct RunWords<'a> {
+    /// The numbers that the processes begin with.
+    pub inputs: &'a str,
+    /// The processes in the order of their steps, and of their crashes if they crash.
+    pub schedule: &'a str,
+    /// How many processes there are, if a number was given.
+    pub processes: Option<u8>,
+    /// Whether each step is written, and each crash.
+    pub steps: bool,
+    /// The form of the answer.
+    pub form: AnswerForm,
+}
+
+// Whether a flag was given.
+pub(crate) fn is_flag_set(words: &ArgMatches<'_>, id: &str) -> bool
+    ensures { result ≡ is_flag_set id.now (rows_in words.now) }
+{
+    match word(words, id) {
+        Some(word) => word == "true",
+        None => false,
+    }
+}
+
+// Whether a word is there that no command by a certificate has.
+pub(crate) fn excludes_certificate(words: &ArgMatches<'_>) -> bool
+    ensures { result ≡ excludes_certificate (rows_in words.now) }
+{
+    is_flag_set(words, "recoverable")
+        || is_flag_set(words, "shortest")
+        || word(words, "processes").is_some()
+}
+
+// The words of a run.
+pub(crate) fn run_words<'a>(words: &ArgMatches<'a>) -> Option<RunWords<'a>>
+    ensures { Finds (HasRun (rows_in words.now)) result }
+{
+    Some(RunWords {
+        inputs: list(words, "INPUTS")?,
+        schedule: list(words, "SCHEDULE")?,
+        processes: optional_number(words, "processes")?,
+        steps: is_flag_set(words, "steps"),
+        form: answer_form(words)?,
+    })
+}
+
+// Where the table of a run is read from: the first word, which is the certificate of other runs. No
+// other word may say so.
+pub(crate) fn run_table<'a>(words: &ArgMatches<'a>) -> Option<TextSource<'a>>
+    ensures { Finds (HasRunTable (rows_in words.now)) result }
+{
+    if table_word(words).is_some() {
+        return None;
+    }
+    Some(TextSource::of(word(words, "CERT")?))
+}
+
+// Where the table of the shortest plan is read from: the option or the first word, which is the
+// certificate of other plans, but not both. Without a word for it, that is standard input.
+pub(crate) fn plan_table<'a>(words: &ArgMatches<'a>) -> Option<TextSource<'a>>
+    ensures { Finds (HasPlanTable (rows_in words.now)) result }
+{
+    if word(words, "FILE").is_some() {
+        return None;
+    }
+    match (word(words, "table"), word(words, "CERT")) {
+        (Some(_), Some(_)) => None,
+        (Some(file), None) | (None, Some(file)) => Some(TextSource::of(file)),
+        (None, None) => Some(TextSource::StandardInput),
+    }
+}
