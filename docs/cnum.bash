@@ -35,7 +35,7 @@ _cnum() {
         [[ $previous == --as ]] && values='text json markdown'
         ;;
     show)
-        options='--shortest --processes --as --table -h --help' arguments='CERT FILE'
+        options='--shortest --without-read --processes --as --table -h --help' arguments='CERT FILE'
         [[ $previous == --processes ]] && values='2 3 4 5 6 7 8'
         [[ $previous == --as ]] && values='text json dot promela rust c'
         ;;
@@ -43,7 +43,7 @@ _cnum() {
         options='--table -h --help' arguments='FILE'
         ;;
     agree)
-        options='--steps --recoverable --shortest --processes --as --table -h --help' arguments='CERT INPUTS SCHEDULE FILE'
+        options='--steps --recoverable --shortest --without-read --processes --as --table -h --help' arguments='CERT INPUTS SCHEDULE FILE'
         [[ $previous == --processes ]] && values='2 3 4 5 6 7 8'
         [[ $previous == --as ]] && values='text json'
         ;;

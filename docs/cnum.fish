@@ -92,6 +92,7 @@ complete -c cnum -n '__cnum_is pairs' -l as -x -a 'text json markdown' -d 'The f
 complete -c cnum -n '__cnum_is pairs' -s h -l help -d 'Print help'
 complete -c cnum -n '__cnum_at pairs 1' -F
 complete -c cnum -n '__cnum_is show' -l shortest -d 'Writes the shortest plan, with no certificate: CERT is the table'
+complete -c cnum -n '__cnum_is show' -l without-read -d 'Writes the shortest plan of which no process reads'
 complete -c cnum -n '__cnum_is show' -l processes -x -a '2 3 4 5 6 7 8' -d 'How many processes there are, from 2 to 8, where there is no certificate'
 complete -c cnum -n '__cnum_is show' -l as -x -a 'text json dot promela rust c' -d 'The form in which the plan is written'
 complete -c cnum -n '__cnum_is show' -l table -r -F -d 'The file that holds the type table, in place of standard input'
@@ -104,6 +105,7 @@ complete -c cnum -n '__cnum_at draw 1' -F
 complete -c cnum -n '__cnum_is agree' -l steps -d 'Tells what each step does, before the decisions'
 complete -c cnum -n '__cnum_is agree' -l recoverable -d 'Lets processes crash: CERT is the table, and a cP in SCHEDULE a crash'
 complete -c cnum -n '__cnum_is agree' -l shortest -d 'Runs the shortest plan, with no certificate: CERT is the table'
+complete -c cnum -n '__cnum_is agree' -l without-read -d 'Runs the shortest plan of which no process reads'
 complete -c cnum -n '__cnum_is agree' -l processes -x -a '2 3 4 5 6 7 8' -d 'How many processes there are, from 2 to 8, where there is no certificate'
 complete -c cnum -n '__cnum_is agree' -l as -x -a 'text json' -d 'The form in which the run is written'
 complete -c cnum -n '__cnum_is agree' -l table -r -F -d 'The file that holds the type table, in place of standard input'

@@ -134,9 +134,9 @@ def with_no_limit(words):
     return {"from": int(ends[0]), "to": int(ends[1])} if len(ends) == 2 else "infinite" if words == "infinite" else int(words)
 
 
-def explanation(table, certificate, words, told_all, sides):
+def explanation(table, certificate, words, told_all, sides, shortest):
     """The text of the value for a number in words, with no limit, or for that of the certificate if there are no words. `sides` has for each process
-    of the witness the pairs that it can get if team A is first, and if team B is."""
+    of the witness the pairs that it can get if team A is first, and if team B is. `shortest` is what the shortest plan costs, if that is told."""
     entries = certificate["collisions"]
     told = entries if told_all else entries[:MOST_TOLD]
     value = {
@@ -148,6 +148,7 @@ def explanation(table, certificate, words, told_all, sides):
         "name": table.name,
         "number": with_no_limit(words) if words else up_to(certificate),
         "rule": rule(table),
+        "shortest": shortest,
         "version": certificate["version"],
         "witness": witness(table, certificate["witness"], sides),
     }

@@ -11,16 +11,19 @@ import json
 
 # The stages of a process at a place, in their order.
 WRITE, APPLY, LOOK, TAKE = range(4)
-# What a process that does not read sees of a state.
+# What a process that does not look sees of a state.
 NOTHING = 0
+# How the processes of a node look at its object behind their operations: they do not, or they read the state; else they apply the silent operation
+# with this number.
+BLIND, READING = "blind", "reading"
 
 
 class Node:
-    """A node: the start state of its object, whether its processes read the state behind their operations, the sizes of its teams, and the
-    operation of each of its processes. A tree gives it the number of its first process."""
+    """A node: the start state of its object, how its processes look at it behind their operations, the sizes of its teams, and the operation of each
+    of its processes. A tree gives it the number of its first process."""
 
-    def __init__(self, start, reads, sizes, operations):
-        self.start, self.reads, self.sizes, self.operations, self.first = start, reads, sizes, operations, None
+    def __init__(self, start, sight, sizes, operations):
+        self.start, self.sight, self.sizes, self.operations, self.first = start, sight, sizes, operations, None
         self.teams = [team for team, size in enumerate(sizes) for _ in range(size)]
 
     def processes(self):
@@ -34,7 +37,30 @@ class Node:
 
     def price(self):
         """The steps of a process at this node."""
-        return 4 if self.reads else 3
+        return price(self.sight)
+
+    def look(self):
+        """The silent operation by which the processes look, or None."""
+        return None if self.sight in (BLIND, READING) else self.sight
+
+    def seen(self, table, saw):
+        """The name of what a process saw, or None if it does not look."""
+        return None if self.sight == BLIND else (table.states if self.sight == READING else table.responses)[saw]
+
+
+def price(sight):
+    """The steps of a process at a node at which processes look in this way."""
+    return 3 if sight == BLIND else 4
+
+
+def seen(table, sight, state):
+    """What a process sees of a state."""
+    return NOTHING if sight == BLIND else state if sight == READING else table.act(sight, state)[0]
+
+
+def silent_operations(table):
+    """The operations that change no state."""
+    return [number for number, row in enumerate(table.rows) if all(after == state for state, (_, after) in enumerate(row))]
 
 
 class PlanTree:
@@ -73,8 +99,8 @@ class PlanTree:
 
     @functools.cached_property
     def shown(self):
-        """For each node and each of its processes the teams in which the orders begin that show it a response and a state."""
-        return [shown(self.table, node.start, node.reads, node.operations, node.teams) for node in self.nodes]
+        """For each node and each of its processes the teams in which the orders begin that show it a response and what it sees."""
+        return [shown(self.table, node.start, node.sight, node.operations, node.teams) for node in self.nodes]
 
     def clashes(self):
         """Each node at which a process is shown the same by orders that begin in different teams."""
@@ -82,7 +108,7 @@ class PlanTree:
             for process, told in zip(node.processes(), of_node):
                 for (response, saw), teams in told.items():
                     if len(teams) > 1:
-                        saw = f" and {self.table.states[saw]}" * node.reads
+                        saw = "" if node.sight == BLIND else f" and {node.seen(self.table, saw)}"
                         yield f"node {number}: process {process} is shown {self.table.responses[response]}{saw} by teams {sorted(teams)}"
 
     @functools.cached_property
@@ -114,9 +140,11 @@ class PlanTree:
         for node in self.written()["nodes"]:
             ends = [*itertools.accumulate(node["teams"], initial=node["first"])]
             teams = " ".join(f"{begin}" if end == begin + 1 else f"{begin}-{end - 1}" for begin, end in itertools.pairwise(ends))
-            yield f"node {node['node']} start {node['start']} by response{' and state' * node['reads']} teams {teams}"
+            look = f" and look {node['look']}" if "look" in node else ""
+            yield f"node {node['node']} start {node['start']} by response{' and state' * node['reads']}{look} teams {teams}"
             for it in node["processes"]:
-                judges = [f"{judged['response']}{'/' + judged['state'] if 'state' in judged else ''}:{judged['team']}" for judged in it["judges"]]
+                saw = lambda judged: "".join(f"/{judged[kind]}" for kind in ("look", "state") if kind in judged)
+                judges = [f"{judged['response']}{saw(judged)}:{judged['team']}" for judged in it["judges"]]
                 yield f"node {node['node']} process {it['process']} {it['operation']} judges {' '.join(judges)}"
         for process, path in enumerate(self.paths):
             places = ", ".join(f"node {node} team {team}" for node, team in path)
@@ -124,7 +152,8 @@ class PlanTree:
 
     def picture(self):
         """What `show --shortest --as dot` has to draw: the attributes, the nodes with theirs, and the arrows with theirs."""
-        sight = lambda node: "response and state" if node.reads else "response"
+        look = lambda node: "" if node.look() is None else f" and look {self.table.operations[node.look()]}"
+        sight = lambda node: "response and state" if node.sight == READING else f"response{look(node)}"
         nodes = {f"node_{v}": {"label": f"node {v} from {self.table.states[it.start]} by {sight(it)}"} for v, it in enumerate(self.nodes)}
         nodes |= {f"process_{p}": {"shape": "box", "label": f"process {p}"} for p in range(self.n)}
         arrows = []
@@ -138,19 +167,22 @@ class PlanTree:
     def written_node(self, number):
         node = self.nodes[number]
         processes = [self.written_process(number, node, process) for process in node.processes()]
-        start = self.table.states[node.start]
-        return {"first": node.first, "node": number, "processes": processes, "reads": node.reads, "start": start, "teams": node.sizes}
+        start, look = self.table.states[node.start], {} if node.look() is None else {"look": self.table.operations[node.look()]}
+        reads = node.sight == READING
+        return {"first": node.first, **look, "node": number, "processes": processes, "reads": reads, "start": start, "teams": node.sizes}
 
     def written_process(self, number, node, process):
-        judged = sorted(self.judges[number, process].items())
-        state = lambda saw: {"state": self.table.states[saw]} if node.reads else {}
-        judges = [{"response": self.table.responses[response], **state(saw), "team": team} for (response, saw), team in judged]
+        judges = []
+        for (response, saw), team in sorted(self.judges[number, process].items()):
+            looked = {} if node.look() is None else {"look": node.seen(self.table, saw)}
+            state = {"state": node.seen(self.table, saw)} if node.sight == READING else {}
+            judges.append({**looked, "response": self.table.responses[response], **state, "team": team})
         return {"judges": judges, "operation": self.table.operations[node.operation(process)], "process": process, "team": node.team(process)}
 
 
-def shown(table, start, reads, operations, teams):
-    """For each process of a node what it can be shown: the teams in which the orders begin that show it a response and, if it reads, a last
-    state. Orders of the same processes with one first team, one last state and one response of the process count once."""
+def shown(table, start, sight, operations, teams):
+    """For each process of a node what it can be shown: the teams in which the orders begin that show it a response and, if it looks, what it sees
+    of a last state. Orders of the same processes with one first team, one last state and one response of the process count once."""
     last = {0: set()}  # of the orders of these processes: the team of the first one, and the last state
     told = [{0: set()} for _ in operations]  # the same with the response of this process
     for moved in range(1, 1 << len(operations)):
@@ -171,7 +203,7 @@ def shown(table, start, reads, operations, teams):
     for it in told:
         pairs = {}
         for first, response, state in itertools.chain.from_iterable(it.values()):
-            pairs.setdefault((response, state if reads else NOTHING), set()).add(first)
+            pairs.setdefault((response, seen(table, sight, state)), set()).add(first)
         found.append(pairs)
     return found
 
@@ -189,7 +221,16 @@ def read_node(node, table):
     if type(node["reads"]) is not bool or {type(size) for size in node["teams"]} != {int}:
         raise ValueError("the way to look, or a size, is of another kind")
     operations = [table.operations.index(it["operation"]) for it in node["processes"]]
-    return Node(table.states.index(node["start"]), node["reads"], node["teams"], operations)
+    return Node(table.states.index(node["start"]), read_sight(node, table), node["teams"], operations)
+
+
+def read_sight(node, table):
+    if "look" not in node:
+        return READING if node["reads"] else BLIND
+    look = table.operations.index(node["look"])
+    if node["reads"] or look not in silent_operations(table):
+        raise ValueError("the look is by an operation that changes a state, or beside a read")
+    return look
 
 
 def faults(text, table, n):
@@ -257,10 +298,10 @@ class World:
         if stage == APPLY:
             operation = node.operation(process)
             response, self.states[number] = self.tree.table.act(operation, self.states[number])
-            self.locals[process] = place, value, LOOK if node.reads else TAKE, response, NOTHING
-            return APPLY, number, operation, response, None if node.reads else self.tree.judges[number, process][response, NOTHING]
+            self.locals[process] = place, value, TAKE if node.sight == BLIND else LOOK, response, NOTHING
+            return APPLY, number, operation, response, self.tree.judges[number, process][response, NOTHING] if node.sight == BLIND else None
         if stage == LOOK:
-            saw = self.states[number]
+            saw = seen(self.tree.table, node.sight, self.states[number])
             self.locals[process] = place, value, TAKE, response, saw
             return LOOK, number, saw, self.tree.judges[number, process][response, saw]
         first = self.tree.judges[number, process][response, saw]
@@ -292,8 +333,8 @@ class Runner:
             node = self.tree.nodes[number]
             yield WRITE, number, (number, team)
             yield APPLY, number, self.tree.table.rows[node.operation(process)]
-            if node.reads:
-                yield LOOK, number, None
+            if node.sight != BLIND:
+                yield LOOK, number, node.sight
             yield TAKE, number, {pair: (number, first) for pair, first in self.tree.judges[number, process].items()}
 
     def decisions(self, inputs, schedule):
@@ -312,7 +353,7 @@ class Runner:
                 response, states[node] = it[states[node]]
                 told[process] = response, NOTHING
             elif stage == LOOK:
-                told[process] = told[process][0], states[node]
+                told[process] = told[process][0], seen(self.tree.table, it, states[node])
             else:
                 values[process] = registers[it[told[process]]]
         return [value if place == len(moves) else None for value, place, moves in zip(values, places, self.moves)]
@@ -365,7 +406,11 @@ def told_step(tree, process, action):
         judges = {} if judged is None else {"judged": judged}
         return {"action": "apply", **judges, "node": node, "operation": table.operations[operation], "process": process, "response": table.responses[response]}
     if stage == LOOK:
-        return {"action": "read", "judged": rest[1], "node": node, "process": process, "state": table.states[rest[0]]}
+        saw, judged = tree.nodes[node].seen(table, rest[0]), rest[1]
+        look = tree.nodes[node].look()
+        if look is None:
+            return {"action": "read", "judged": judged, "node": node, "process": process, "state": saw}
+        return {"action": "look", "judged": judged, "node": node, "operation": table.operations[look], "process": process, "response": saw}
     if node == 0:
         return {"action": "decide", "process": process, "value": rest[1]}
     return {"action": "take", "node": node, "process": process, "team": rest[0], "value": rest[1]}
@@ -382,8 +427,8 @@ def told_course(tree, inputs, schedule):
 
 
 def firsts(table, start, operations):
-    """For each way to look, not to read or to read, the sets of processes that come first in the orders that show some process the same: each
-    order of distinct processes is gone through. A set is a number with a bit for each process."""
+    """For each way to look the sets of processes that come first in the orders that show some process the same: each order of distinct processes is
+    gone through. A set is a number with a bit for each process."""
     blind, seeing, answered = collections.defaultdict(int), collections.defaultdict(int), []
     moves = [(1 << process, table.rows[operation]) for process, operation in enumerate(operations)]
 
@@ -399,7 +444,15 @@ def firsts(table, start, operations):
                 answered.pop()
 
     go_on(0, start, 0)
-    return {False: {*blind.values()}, True: {*seeing.values()}}
+    return {BLIND: {*blind.values()}, READING: {*seeing.values()}} | {look: looking(table, seeing, look) for look in silent_operations(table)}
+
+
+def looking(table, seeing, look):
+    """The sets of processes that come first, by a silent operation, from those by the state."""
+    by_response = collections.defaultdict(int)
+    for (it, state), first in seeing.items():
+        by_response[it, seen(table, look, state)] |= first
+    return {*by_response.values()}
 
 
 def compositions(n):
@@ -413,24 +466,33 @@ def blocks(sizes):
     return [(1 << end) - (1 << begin) for begin, end in itertools.pairwise(ends)]
 
 
-def all_costs(table, most):
-    """For each number of processes, from 1 to the most, the costs of all plan trees for as many whose nodes have one way to look and two or more
-    teams, none of them empty: (greatest steps, objects, sum). A process alone has no node. A tree is a witness over all start states, all
-    operations of its processes and all sizes of teams, and for each team of several processes any tree for as many."""
-    costs = {1: {(0, 0, 0)}}
+def all_roots(table, most):
+    """For each number of processes, from 2 to the most, the sizes of two or more teams, none of them empty, and the way to look of all witnesses
+    for as many: (sizes, sight). They are looked for over all start states, all operations of the processes and all sizes."""
+    roots = {}
     for n in range(2, most + 1):
-        roots = set()
         divisions = [(sizes, blocks(sizes)) for sizes in compositions(n)]
+        roots[n] = set()
         for start, operations in itertools.product(range(len(table.states)), itertools.product(range(len(table.operations)), repeat=n)):
-            for reads, sets in firsts(table, start, operations).items():
-                roots |= {(sizes, reads) for sizes, teams in divisions if all(any(it & team == it for team in teams) for it in sets)}
-        costs[n] = {cost for sizes, reads in roots for cost in costs_of_root(costs, sizes, 4 if reads else 3)}
+            for sight, sets in firsts(table, start, operations).items():
+                roots[n] |= {(sizes, sight) for sizes, teams in divisions if all(any(it & team == it for team in teams) for it in sets)}
+    return roots
+
+
+def all_costs(roots, is_allowed):
+    """For each number of processes the costs of all plan trees for as many at each node of which all look in one way, one that is allowed:
+    (greatest steps, objects, sum). A process alone has no node. A tree has one of these roots, and for each team of several processes any tree for
+    as many."""
+    costs = {1: {(0, 0, 0)}}
+    for n in roots:
+        allowed = {(sizes, price(sight)) for sizes, sight in roots[n] if is_allowed(sight)}
+        costs[n] = {cost for sizes, steps in allowed for cost in costs_of_root(costs, sizes, steps)}
     return costs
 
 
-def costs_of_root(costs, sizes, price):
-    """The costs of all trees with a root of this price, whose teams have these sizes."""
+def costs_of_root(costs, sizes, own):
+    """The costs of all trees with a root at which a process takes so many steps, and whose teams have these sizes."""
     below = {(0, 0, 0)}
     for size in sizes:
         below = {(max(s, t), u + v, x + y) for (s, u, x), (t, v, y) in itertools.product(below, costs[size])}
-    return {(steps + price, objects + 1, together + sum(sizes) * price) for steps, objects, together in below}
+    return {(steps + own, objects + 1, together + sum(sizes) * own) for steps, objects, together in below}

@@ -19,3 +19,7 @@ LOOSE = table_of("loose", "0>0 0>2 0>2 0>0", "0>3 0>1 1>2 0>1")
 # A type for three, by further operations whose processes tell each other that they go on; no further operation alone is enough. Here the
 # number of a response is that of its word.
 TOLD = table_of("told", "1>0 1>1 0>0", "1>0 0>0 1>2", "0>2 0>0 0>1")
+# Both first operations answer alike, so that processes look by the third one, which changes nothing and tells the state.
+LOOKED_AT = table_of("looked_at", "ok>1 ok>1 ok>2", "ok>2 ok>1 ok>2", "ok>0 one>1 two>2")
+# A type for any number of processes, if they read its state: each operation answers alike in all states.
+BLIND = table_of("blind", "ok>1 ok>1 ok>2", "ok>2 ok>1 ok>2")

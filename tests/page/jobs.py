@@ -102,6 +102,7 @@ class Jobs:
         for n, inputs in (("2", "1,2"), ("3", "1,2,3")):
             self.run(["agree", "--recoverable", "--processes", n, "--steps", "--as", "json", "-", inputs, CRASHES], table)
             self.run(["show", "--shortest", "--processes", n], table)
+            self.run(["show", "--without-read", "--processes", n], table)
             self.run(["agree", "--shortest", "--processes", n, "--steps", "-", inputs, "1,1,0,0,0,1,0,1,0,1"], table)
         self.run(["classify", "--limit", "3", "T", "-", "T"], table, T=table)
         unread = self.run(["find", "--without-read"], table)
@@ -137,7 +138,7 @@ class Jobs:
         refused = [["find", "--limit", "9"], ["find", "--limit", "0"], ["find", "--limit", "x"], ["find"], ["nosuch"], [], ["lint", "extra"]]
         refused += [["check", "missing"], ["check", "constructor"], ["show", "--as", "x", "C"], ["lint", "\xe4"], ["why", "--recoverable", "--limit", "3", "-"]]
         refused += [["classify", "--without-read", "--limit", "3", "-"], ["why", "--without-read", "--recoverable", "-"], ["find", "--without-read", "--limit", "3"]]
-        refused += [["show"], ["show", "--shortest", "C", "-"], ["agree", "--shortest", "--recoverable", "-", "1,2", "0"]]
+        refused += [["show"], ["show", "--shortest", "C", "-"], ["agree", "--shortest", "--recoverable", "-", "1,2", "0"], ["agree", "--without-read", "--recoverable", "-", "1,2", "0"]]
         for words in [*refused, ["--help"], ["-h"], ["--version"], ["help"], *([it, "--help"] for it in COMMANDS)]:
             self.run(words, BIT)
 

@@ -86,7 +86,7 @@ describe('links', () => {
         ['#inputs=1,abc', 'a process proposes “abc” in it, and that is no number.'],
         ['#inputs=1,', 'a process proposes “” in it, and that is no number.'],
         ['#inputs=18446744073709551616', 'a process proposes “18446744073709551616” in it, and that is no number.'],
-        ['#plan=other', 'it says “plan=other”, and the page knows only “plan=shortest” and “plan=certificate”.'],
+        ['#plan=other', 'it says “plan=other”, and the page knows only “plan=shortest”, “plan=certificate” and “plan=without_reads”.'],
         ['#view=all', 'it shows the part “all” alone, and the page has number, why, states, run and pairs.'],
         ['#exmaple=types/idle', 'it says “exmaple”, which the page does not know.'],
         ['#example=types/idle&table=AAAA', 'it names both an example and a table.'],
@@ -198,6 +198,110 @@ describe('a plan tree', () => {
         const events = run.withStates(run.eventsOf(Array(3).fill(step(2)), steps), PLAN, () => 'one');
         assert.deepEqual(events.map(it => [it.kind, it.team]), [['writes', 'B'], ['applies', 'B'], ['decides', undefined]]);
         assert.deepEqual(run.after(events, PLAN).nodes[0].registers, { B: '30' });
+    });
+
+    // Two processes at an object that answers both alike, and then tell by `get`, which changes nothing, who was first.
+    const seen = (look, team) => ({ look, response: 'ok', team });
+    const LOOKING = {
+        type: 'kept',
+        processes: 2,
+        objects: 1,
+        steps: 4,
+        sum: 8,
+        nodes: [
+            {
+                first: 0,
+                look: 'get',
+                node: 0,
+                processes: [0, 1].map(it => ({ ...member(it, it, `put${it}`), judges: [seen('zero', 0), seen('one', 1)] })),
+                reads: false,
+                start: 'unset',
+                teams: [1, 1],
+            },
+        ],
+        paths: [0, 1].map(process => ({ process, steps: 4, places: [{ node: 0, team: process }] })),
+    };
+
+    it('looks by an operation that changes nothing, and so reads nothing', () => {
+        const plan = Cnum.plans.ofTree(LOOKING);
+        assert.deepEqual(plan.nodes, [{ start: 'unset', teams: ['A', 'B'], roles: [a, b], look: 'get' }]);
+        assert.deepEqual([plan.reads, plan.steps, Cnum.plans.looks(plan), Cnum.plans.looks(PLAN)], [false, [4, 4], true, false]);
+        assert.equal(Cnum.plans.taskAt(plan, plan.paths[1][0]), 'put1, then looks by get');
+        assert.equal(Cnum.plans.taskAt(PLAN, PLAN.paths[2][0]), 'put1');
+    });
+
+    it('tells the team that a look shows, and changes no object by it', () => {
+        const steps = [
+            { action: 'write', node: 0, process: 1, team: 1, value: 20 },
+            { action: 'apply', node: 0, operation: 'put1', process: 1, response: 'ok' },
+            { action: 'look', judged: 1, node: 0, operation: 'get', process: 1, response: 'one' },
+            { action: 'decide', process: 1, value: 20 },
+        ];
+        const plan = Cnum.plans.ofTree(LOOKING);
+        const events = run.withStates(run.eventsOf(Array(4).fill(step(1)), steps), plan, () => 'one');
+        const { does, ...told } = events[2];
+        assert.deepEqual([does, told], [run.STEP, { kind: 'sees', node: 0, operation: 'get', process: 1, response: 'one', team: 'B' }]);
+        assert.deepEqual(events.map(it => it.after), [undefined, 'one', undefined, undefined]);
+        const { state, last } = run.after(events, plan).nodes[0];
+        assert.deepEqual([state, last.operation], ['one', 'put1']);
+        assert.deepEqual(run.active(run.after(events.slice(0, 3), plan).processes), [0, 1]);
+        const { marks } = Cnum.placeRun(events, ['10', '20'], text => 8 * text.length);
+        assert.deepEqual(marks[2].texts, ['sees one', 'node 0']);
+        assert.equal(Cnum.shortText(events[2]), 'sees one');
+        assert.equal(Cnum.say(`log_${told.kind}`, told), 'process 1: looks by get at node 0: one, team B');
+    });
+
+    it('says in German by what it looks', () => {
+        const plan = Cnum.plans.ofTree(LOOKING);
+        const event = { kind: 'sees', node: 0, operation: 'get', process: 1, response: 'one', team: 'B' };
+        Cnum.useLanguage('de');
+        const said = [Cnum.plans.taskAt(plan, plan.paths[0][0]), Cnum.say('log_sees', event), Cnum.shortText(event)];
+        Cnum.useLanguage();
+        assert.deepEqual(said, ['put0, sieht dann mit get nach', 'Prozess 1: sieht mit get an Knoten 0 nach: one, Team B', 'sieht one']);
+    });
+
+    it('has words for each action of the schema', () => {
+        const { oneOf } = JSON.parse(fs.readFileSync(path.join(WEB, '../docs/schema/tree_course.json'), 'utf8')).definitions.step;
+        const actions = oneOf.map(it => it.properties.action.const);
+        const kinds = actions.map(action => run.eventsOf([step(0)], [{ action, process: 0, node: 0, team: 0, judged: 0, value: 1 }])[0].kind);
+        assert.deepEqual(kinds.filter(it => it !== 'rests' && !(`log_${it}` in Cnum.texts)), []);
+        assert.ok(actions.includes('look') && kinds.includes('sees'));
+    });
+
+    it('is the shortest, or the shortest without reads', () => {
+        const ofThree = Cnum.plans.commandsOf('shortest', 3);
+        assert.deepEqual(ofThree.show, ['show', '--shortest', '--processes', '3', '--as', 'json', '-']);
+        assert.deepEqual(ofThree.agree, ['agree', '--shortest', '--processes', '3', '--steps', '--as', 'json', '-']);
+        assert.deepEqual(Cnum.plans.commandsOf('without_reads').show, ['show', '--without-read', '--as', 'json', '-']);
+        const { agree } = Cnum.plans.commandsOf('without_reads', 2);
+        assert.deepEqual(agree, ['agree', '--without-read', '--processes', '2', '--steps', '--as', 'json', '-']);
+        const said = Cnum.plans.kinds.KINDS.map(it => Cnum.plans.leastOf(it));
+        assert.deepEqual(said, ['plan_least', undefined, 'plan_least_unread']);
+        assert.deepEqual(said.filter(it => it && !(it in Cnum.texts)), []);
+    });
+
+    it('can be chosen on the page in each kind', () => {
+        const page = fs.readFileSync(path.join(WEB, 'index.html'), 'utf8');
+        const [, choice] = page.split('<select id="plan">');
+        const [options] = choice.split('</select>');
+        assert.deepEqual([...options.matchAll(/value="(\w+)"/g)].map(it => it[1]), Cnum.plans.kinds.KINDS);
+    });
+
+    it('says why there is none without reads', () => {
+        const why = stderr => Cnum.plans.whyNone({ status: 1, stderr });
+        const none = 'cnum: table: no plan tree';
+        assert.equal(why(`${none}\n`), `Without reads no two processes can agree by a plan tree of the type. (${none})`);
+        assert.equal(why('cnum: out of memory\n'), 'The memory is not enough. (cnum: out of memory)');
+    });
+
+    it('is that without reads, if the link says so', async () => {
+        const shown = { example: 'types/idle', limit: null, reads: false, plan: 'without_reads', inputs: ['1', '2'], acts: [] };
+        assert.equal(await Cnum.linkOf(shown), '#example=types/idle&reads=no&plan=without_reads');
+        const link = await Cnum.linkOf({ ...shown, acts: [step(1)] });
+        assert.equal(link, '#example=types/idle&reads=no&plan=without_reads&inputs=1,2&run=1');
+        const { plan, reads, acts } = await Cnum.linkedBy(link);
+        assert.deepEqual([plan, reads, acts], ['without_reads', false, [step(1)]]);
+        assert.equal(await Cnum.linkOf({ ...shown, reads: true, comeBack: true }), '#example=types/idle&crashes=yes');
     });
 
     it('is that of a certificate, if the link says so or an older page made it', async () => {

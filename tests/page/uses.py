@@ -21,6 +21,7 @@ from calls import TOP, TYPES, called, found
 from lives import Lives, recording_witnesses, told_event
 from pace import Patience
 from table import Table, table_text
+from unread_types import BLIND, LOOKED_AT
 
 PAGE = (TOP / "web/index.html").as_uri()
 FIRST = 1.0  # seconds to the first number, on a machine with no other work
@@ -766,6 +767,7 @@ def chosen_plans(use):
         said = use.value("document.getElementById('plan').value"), use.texts(".log li")[:1]
         yield f"a link with {given}", said == (plan, [log]), said
     yield from plans_without_certificate(use)
+    yield from plans_without_reads(use)
     yield from parts_of_plans(use)
 
 
@@ -782,6 +784,34 @@ def plans_without_certificate(use):
     use.open("#example=catalogue/cas_9&limit=6")
     said = use.count(".process"), use.text("limit-said"), use.value("JSON.parse(Cnum.page.certificate).limit")
     yield "fewer, and still more than the certificate has", said[0] == 6 and said[1].startswith("The protocol is for 6 processes. Why is for 5:") and said[2] == 5, said
+
+
+def plans_without_reads(use):
+    """The shortest plan without reads by choice and by a link, against the program: for fewer processes than can agree with reads, of processes
+    that look by an operation, and where there is none."""
+    use.open("#example=catalogue/queue_2&reads=no")
+    use.value(CHOOSE_PLAN % "without_reads")
+    told = json.loads(called(["show", "--without-read", "--as", "json", "-"], use.table())[0])
+    wanted = f"{size_of_plan(told)}No plan tree without reads"
+    well = use.until(f"document.getElementById('plan-said').textContent.startsWith({json.dumps(wanted)})", 20)
+    yield "the plan without reads", well and use.text("protocol-of").startswith("This protocol reads no state"), use.text("plan-said")
+    said = f"The protocol is for {told['processes']} processes, the most for which there is a plan tree without reads."
+    yield "for as many processes as it can", use.text("limit-said") == said and use.count(".process") == told["processes"], use.text("limit-said")
+    link = "#example=catalogue/queue_2&reads=no&plan=without_reads"
+    yield "and its link", use.until(f"location.hash === '{link}'", 5), use.value("location.hash")
+    use.open("#example=types/sticky_bit&plan=without_reads")
+    use.give(LOOKED_AT.text())
+    yield "that of processes that look", "a process looks behind its operation by another one" in use.text("plan-said"), use.text("plan-said")
+    use.limit(3)
+    words, source = ["agree", "--without-read", "--processes", "3", "--steps", "-"], random.Random(6)
+    for turn in range(5):
+        about = f"processes that look, schedule {turn}"
+        yield from one_schedule(use, about, words, LOOKED_AT.text(), random_acts(source, 3), 3, [LOOKED_AT.states[0]] * 3)
+    use.give(BLIND.text())
+    refused = "Without reads no two processes can agree by a plan tree of the type."
+    yield "where there is none", use.text("protocol").startswith(refused) and not use.is_hidden("plan-part"), use.text("protocol")
+    use.value(CHOOSE_PLAN % "shortest")
+    yield "and there is another one", use.until("document.querySelectorAll('.process').length === 8", 20), use.count(".process")
 
 
 def parts_of_plans(use):

@@ -6,6 +6,7 @@ var Cnum = globalThis.Cnum || {};
     'use strict';
 
     const { run, say } = Cnum;
+    const { kinds } = Cnum.plans;
     const FORM = 'deflate'; // with a checksum
     const OLD_FORM = 'deflate-raw'; // of links that older pages made
     const FIRST_BYTE = 0x78; // of a text in the form with a checksum
@@ -65,7 +66,7 @@ var Cnum = globalThis.Cnum || {};
         },
         crashes: value => (value === 'yes' ? { comeBack: true } : refuse('link_crashes', { value })),
         reads: value => (value === 'no' ? { reads: false } : refuse('link_reads', { value })),
-        plan: plan => (['shortest', 'certificate'].includes(plan) ? { plan } : refuse('link_plan', { plan })),
+        plan: plan => (kinds.KINDS.includes(plan) ? { plan } : refuse('link_plan', { plan })),
         lang: lang => (lang in Cnum.languages ? { lang } : refuse('link_language', { lang })),
         view: view => (VIEWS.includes(view) ? { view } : refuse('link_view', { view })),
     };
@@ -81,7 +82,7 @@ var Cnum = globalThis.Cnum || {};
         if (limit) parts.push(`limit=${limit}`);
         if (comeBack) parts.push('crashes=yes');
         if (!reads) parts.push('reads=no');
-        if (plan && !comeBack && (plan !== 'shortest' || acts.length)) parts.push(`plan=${plan}`);
+        if (plan && !comeBack && (plan !== kinds.SHORTEST || acts.length)) parts.push(`plan=${plan}`);
         if (acts.length) parts.push(`inputs=${inputs.join(',')}`, `run=${acts.map(wordOf).join(',')}`);
         if (view) parts.push(`view=${view}`);
         if (lang && lang !== Cnum.FIRST_LANGUAGE) parts.push(`lang=${lang}`);

@@ -10,8 +10,7 @@ var Cnum = globalThis.Cnum || {};
     const BEFORE_TEAMS = 400;
     const FIRST_EXAMPLE = 'types/test_and_set';
     const PROVED = /^(.*?), proved (by .*)\n$/;
-    const CERTIFICATE = 'certificate';
-    const SHORTEST = 'shortest';
+    const { SHORTEST, CERTIFICATE, WITHOUT_READS: PLAN_WITHOUT_READS } = Cnum.plans.kinds;
     const WITHOUT_READS = '--without-read';
     const MOST_PROCESSES = 8; // of a protocol
 
@@ -32,7 +31,7 @@ var Cnum = globalThis.Cnum || {};
             this.certificate = '';
             this.limit = null; // what was chosen for the processes of the protocol, if fewer than the most
             this.comeBack = false; // whether the processes of the protocol crash and come back
-            this.isShortest = true; // whether the protocol is the shortest one, and not that of the certificate
+            this.plan = SHORTEST; // the kind of plan of the protocol
             this.reads = true; // whether reasons, comparisons and links are for objects that can be read
             this.numbers = new Cnum.TwoNumbers({ choose: reads => this.chooseReads(reads), openWhy: reads => this.openReasons(reads) });
             this.editor = new Cnum.Editor(at('table'), at('marks'), at('flaws'));
@@ -107,7 +106,7 @@ var Cnum = globalThis.Cnum || {};
                 this.comeBack = at('come-back').checked;
                 this.refresh();
             });
-            at('plan').addEventListener('change', () => this.choosePlan(at('plan').value === SHORTEST));
+            at('plan').addEventListener('change', () => this.choosePlan(at('plan').value));
             this.listenToUndo();
             at('break-off').addEventListener('click', () => this.breakOff());
             at('break-off-without').addEventListener('click', () => this.breakOffUnread());
@@ -274,8 +273,8 @@ var Cnum = globalThis.Cnum || {};
         async showLinked(linked) {
             this.comeBack = at('come-back').checked = Boolean(linked.comeBack);
             this.reads = linked.reads !== false;
-            this.isShortest = linked.plan ? linked.plan === SHORTEST : linked.comeBack || !linked.acts.length;
-            at('plan').value = this.isShortest ? SHORTEST : CERTIFICATE;
+            this.plan = linked.plan || (linked.comeBack || !linked.acts.length ? SHORTEST : CERTIFICATE);
+            at('plan').value = this.plan;
             this.limit = linked.limit || (linked.inputs.length > 1 && !linked.comeBack ? linked.inputs.length : null);
             this.text = linked.text === undefined ? examples.get(linked.example || FIRST_EXAMPLE).text : linked.text;
             await this.refresh(linked);
@@ -285,8 +284,7 @@ var Cnum = globalThis.Cnum || {};
         linkContent() {
             const example = this.example();
             const { inputs } = this.protocol;
-            const { text, limit, comeBack, reads } = this;
-            const plan = this.isShortest ? SHORTEST : CERTIFICATE;
+            const { text, limit, comeBack, reads, plan } = this;
             return { example: example && example.path, text, limit, comeBack, reads, plan, inputs, acts: this.protocol.actsSoFar() };
         }
 
@@ -337,6 +335,7 @@ var Cnum = globalThis.Cnum || {};
             this.numbers.clear(why);
             this.reasons = new Map(); // what `why` told of the numbers, by whether the object can be read
             this.refused = ''; // why there is no evidence, if there is none
+            this.withoutReads = null; // what `show` answered of the plan without reads for as many processes as it can
             this.graph = null;
             at('running').hidden = at('running-without').hidden = true;
             at('why').replaceChildren();
@@ -501,8 +500,9 @@ var Cnum = globalThis.Cnum || {};
         }
 
         // The certificate for the chosen processes, if they are fewer than those of this one.
-        findChosen(whole) {
+        async findChosen(whole) {
             this.certified = JSON.parse(whole.stdout).number || 1;
+            if (!(await this.findWithoutReads())) return null;
             this.offerLimits();
             return this.certifies() ? this.found(['find', '--limit', String(this.limit)]) : whole;
         }
@@ -512,9 +512,31 @@ var Cnum = globalThis.Cnum || {};
             return Boolean(this.limit) && this.limit < this.certified;
         }
 
-        // The most processes that can be chosen. The shortest plan may be for more than the certificate.
+        // Whether the protocol is the plan without reads.
+        isWithoutReads() {
+            return this.plan === PLAN_WITHOUT_READS && !this.comeBack && this.certified > 1;
+        }
+
+        // Finds the plan without reads for as many processes as it can, if it is chosen. The answer is false if the search is
+        // broken off, or another table has come since.
+        async findWithoutReads() {
+            if (!this.isWithoutReads() || this.withoutReads) return true;
+            const answer = await this.timed(this.ask(this.search, Cnum.plans.commandsOf(this.plan).show));
+            if (answer) this.withoutReads = answer;
+            return Boolean(answer);
+        }
+
+        // For how many processes that plan is, and 1 if there is none.
+        mostWithoutReads() {
+            const { status, stdout } = this.withoutReads;
+            return status === 0 ? JSON.parse(stdout).processes : 1;
+        }
+
+        // The most processes that can be chosen. The shortest plan may be for more than the certificate, and that without reads
+        // for fewer.
         mostToChoose() {
-            const isOfCertificate = this.comeBack || !this.isShortest || this.certified === 1;
+            if (this.isWithoutReads() && this.withoutReads) return this.mostWithoutReads();
+            const isOfCertificate = this.comeBack || this.plan === CERTIFICATE || this.certified === 1;
             return isOfCertificate ? this.certified : Math.min(MOST_PROCESSES, Cnum.leastOf(this.numbers.of(true)));
         }
 
@@ -535,10 +557,18 @@ var Cnum = globalThis.Cnum || {};
             const { most, limit, certified, comeBack, reads } = this;
             const count = limit || most;
             if (comeBack && !reads) return '';
+            if (this.isWithoutReads()) return this.withoutReads ? this.sizeWithoutReads() : '';
             if (reads && count > certified) return say('evidence_apart', { count, certified });
             const parts = comeBack ? 'evidence_why' : reads ? 'evidence_parts' : 'evidence_protocol';
             const key = limit ? 'evidence_chosen' : most < Cnum.mostOf(this.numbers.of(true)) ? 'evidence_most' : 'evidence_whole';
             return say(key, { parts: say(parts), count, most });
+        }
+
+        // The same if the protocol is the plan without reads. Why is for as many processes as it is only if fewer were chosen.
+        sizeWithoutReads() {
+            const { most, limit, reads } = this;
+            const parts = say(reads && this.certifies() ? 'evidence_parts' : 'evidence_protocol');
+            return say(limit ? 'evidence_chosen' : 'evidence_unread', { parts, count: limit || most, most });
         }
 
         // The words that ask why the number is what it is, as far as was chosen.
@@ -555,7 +585,8 @@ var Cnum = globalThis.Cnum || {};
             this.protocol.clear(why);
         }
 
-        // The protocol for as many processes as were chosen: the shortest, or that of the certificate's witness.
+        // The protocol for as many processes as were chosen: the shortest, that of the certificate's witness, or the shortest
+        // without reads.
         async showProtocol(linked) {
             const { number, witness } = JSON.parse(this.certificate);
             if (number === null) {
@@ -564,36 +595,54 @@ var Cnum = globalThis.Cnum || {};
                 this.protocol.clear(say('nobody'));
                 return;
             }
-            const { isShortest } = this;
-            const made = await (isShortest ? this.shortestPlan(this.limit || this.most) : this.planOfWitness(number));
-            if (!made || isShortest !== this.isShortest) return;
+            const { plan } = this;
+            if (this.isWithoutReads() && this.most < 2) {
+                if (this.address.fits(linked, 1)) this.refusePlan(Cnum.plans.ofWitness(witness, this.table));
+                return;
+            }
+            const made = await (plan === CERTIFICATE ? this.planOfWitness(number) : this.planTree(this.limit || this.most));
+            if (!made || plan !== this.plan) return;
             this.agreement = made.agreement;
             this.tellPlan(made.plan);
             await this.showPlan(made.plan, linked, Cnum.plans.ofWitness(witness, this.table));
         }
 
         // Takes the choice of a plan. Nothing else changes, so that the reader stays at the same place.
-        async choosePlan(isShortest) {
-            this.isShortest = isShortest;
+        async choosePlan(plan) {
+            this.plan = plan;
+            if (!(await this.findWithoutReads()) || plan !== this.plan) return;
             this.offerLimits();
             await this.showProtocol({ inputs: [], acts: [] });
         }
 
-        // Says how long a plan is, of what it is the shortest, and whether it is for objects that can be read only.
-        tellPlan({ most, nodes, reads }) {
+        // Says how long a plan is, of what it is the shortest, whether processes look, and whether it is for objects that can be
+        // read only.
+        tellPlan(plan) {
+            const { most, nodes, reads } = plan;
             at('plan-part').hidden = false;
             const size = say(nodes.length === 1 ? 'plan_of_one' : 'plan_size', { most, objects: nodes.length });
-            at('plan-said').replaceChildren(size, ...(this.isShortest ? [' ', ...Cnum.marked('plan_least')] : []));
+            const least = Cnum.plans.leastOf(this.plan);
+            const looks = Cnum.plans.looks(plan) ? [' ', say('plan_looks')] : [];
+            at('plan-said').replaceChildren(size, ...(least ? [' ', ...Cnum.marked(least)] : []), ...looks);
             Cnum.explainWords(at('plan-said'));
             at('protocol-of').textContent = say(reads ? 'protocol_reads' : 'protocol_without_reads');
         }
 
-        // The shortest plan for so many processes, with what runs it; or null.
-        async shortestPlan(number) {
-            const ofNumber = ['--shortest', '--processes', String(number)];
-            const show = await this.found(['show', ...ofNumber, '--as', 'json', '-']);
-            const agreement = { words: ['agree', ...ofNumber, '--steps', '--as', 'json', '-'], files: {}, table: this.table };
-            return show && { plan: Cnum.plans.ofTree(JSON.parse(show.stdout)), agreement };
+        // Says why there is no plan without reads. The reader can choose another one.
+        refusePlan(witness) {
+            at('plan-part').hidden = false;
+            at('plan-said').textContent = at('protocol-of').textContent = '';
+            this.draw(witness);
+            this.protocol.clear(Cnum.plans.whyNone(this.withoutReads));
+        }
+
+        // The plan tree for so many processes, with what runs it; or null. That without reads is known for as many as it can.
+        async planTree(number) {
+            const { show, agree } = Cnum.plans.commandsOf(this.plan, number);
+            const isKnown = this.isWithoutReads() && number === this.mostWithoutReads();
+            const answer = isKnown ? this.withoutReads : await this.found(show);
+            const agreement = { words: agree, files: {}, table: this.table };
+            return answer && { plan: Cnum.plans.ofTree(JSON.parse(answer.stdout)), agreement };
         }
 
         // The plan of the certificate for this number alone, with what runs it; or null. That certificate has the same witness and

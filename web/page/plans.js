@@ -1,8 +1,9 @@
 // Plans of protocols in the one form that the page shows: { processes, comeBack, reads, steps, most, nodes, paths }.
 // Without a crash, a process takes at most its number of `steps` before it has decided, and `most` is the greatest of these
 // numbers; `reads` says whether some process reads the state of an object. Each node has a start state, the names of its teams,
-// and its roles: each operation with its team, once. A path has the node, the team and the operation of each place of a process,
-// from its first node to the root.
+// its roles, each operation with its team, once, and `look`, the operation that changes nothing by which its processes look
+// behind their own, if they do so. A path has the node, the team and the operation of each place of a process, from its first
+// node to the root.
 var Cnum = globalThis.Cnum || {};
 
 (() => {
@@ -11,6 +12,15 @@ var Cnum = globalThis.Cnum || {};
     const NAMES = ['A', 'B', 'C', 'D', 'E', 'F', 'G', 'H'];
     const TWO_TEAMS = NAMES.slice(0, 2);
     const STEPS = 4; // of a process at a node where it reads the state
+    const { say } = Cnum;
+
+    // The kinds of plans that a reader can choose.
+    const SHORTEST = 'shortest';
+    const CERTIFICATE = 'certificate';
+    const WITHOUT_READS = 'without_reads';
+    const KINDS = [SHORTEST, CERTIFICATE, WITHOUT_READS];
+    // Those that are plan trees, with the options that ask for them.
+    const OPTIONS = { [SHORTEST]: '--shortest', [WITHOUT_READS]: '--without-read' };
 
     // The name of a team. A plan tree has numbers in place of names.
     const teamName = team => (Number.isInteger(team) ? NAMES[team] : team);
@@ -36,13 +46,18 @@ var Cnum = globalThis.Cnum || {};
         return chainOf({ comeBack: false, stepsOfNode: STEPS, start, count: nodes, paths: paths.map(path => path.map(placeOf)) });
     }
 
-    // The shortest plan, of what `show --shortest --as json` tells.
+    // A plan tree, of what `show --shortest --as json` or `show --without-read --as json` tells.
     function ofTree({ processes, steps: most, nodes, paths }) {
         const operationOf = (node, process) => nodes[node].processes.find(it => it.process === process).operation;
         const pathOf = ({ process, places }) =>
             places.map(({ node, team }) => ({ node, team: teamName(team), operation: operationOf(node, process) }));
         const placed = paths.map(pathOf);
-        const nodeOf = ({ start, teams }, node) => ({ start, teams: teams.map((_, team) => teamName(team)), roles: rolesAt(node, placed) });
+        const nodeOf = ({ start, teams, look }, node) => ({
+            start,
+            teams: teams.map((_, team) => teamName(team)),
+            roles: rolesAt(node, placed),
+            ...(look !== undefined && { look }),
+        });
         const reads = nodes.some(it => it.reads);
         return { processes, comeBack: false, reads, steps: paths.map(it => it.steps), most, nodes: nodes.map(nodeOf), paths: placed };
     }
@@ -55,5 +70,29 @@ var Cnum = globalThis.Cnum || {};
         return { start: table.items('states')[start].text, roles: teams.flatMap(rolesOfTeam) };
     }
 
-    Cnum.plans = { NAMES, teamName, chainOf, ofCertificate, ofTree, ofWitness };
+    // The words that show the plan tree of this kind, and those that run it, for so many processes or for as many as it can.
+    function commandsOf(kind, processes) {
+        const options = [OPTIONS[kind], ...(processes ? ['--processes', String(processes)] : [])];
+        return { show: ['show', ...options, '--as', 'json', '-'], agree: ['agree', ...options, '--steps', '--as', 'json', '-'] };
+    }
+
+    // What a process does at a place: its operation, and that by which it looks.
+    function taskAt({ nodes }, { node, operation }) {
+        const { look } = nodes[node];
+        return look === undefined ? operation : say('task_looks', { operation, look });
+    }
+
+    const looks = ({ nodes }) => nodes.some(it => it.look !== undefined);
+
+    // Why there is no plan without reads for so many processes, by what the program says.
+    function whyNone(answer) {
+        const fault = Cnum.faultOf(answer.stderr);
+        return Cnum.inWords(answer, fault.name === 'table_no_plan_tree' ? { name: 'no_plan_without_reads' } : fault);
+    }
+
+    // Of what a plan is the shortest, if it is, as the key of a text.
+    const leastOf = kind => ({ [SHORTEST]: 'plan_least', [WITHOUT_READS]: 'plan_least_unread' })[kind];
+
+    const kinds = { SHORTEST, CERTIFICATE, WITHOUT_READS, KINDS };
+    Cnum.plans = { NAMES, kinds, teamName, chainOf, ofCertificate, ofTree, ofWitness, commandsOf, taskAt, looks, whyNone, leastOf };
 })();

@@ -11,7 +11,7 @@ var Cnum = globalThis.Cnum || {};
     const STOP = 'stop';
     const CRASH = 'crash';
     // The kinds of events, by the actions of the steps.
-    const KINDS = { write: 'writes', apply: 'applies', read: 'reads', take: 'takes', decide: 'decides', none: 'rests', crash: 'crashes' };
+    const KINDS = { write: 'writes', apply: 'applies', read: 'reads', look: 'sees', take: 'takes', decide: 'decides', none: 'rests', crash: 'crashes' };
 
     // The kind of a step. A process that comes back may read the start state before its operation, which tells no team, and
     // find nothing in a register.
@@ -21,7 +21,7 @@ var Cnum = globalThis.Cnum || {};
     }
 
     // A step as an event. The values of processes are texts. The team of a read is the one that it judges to have come
-    // first; so is that of an operation whose response alone tells.
+    // first; so is that of a look by an operation that changes nothing, and of an operation whose response alone tells.
     function eventOf({ action, process, judged = null, value = null, team = judged, ...rest }) {
         const kind = kindOf({ action, judged, value });
         return { kind, ...rest, ...(team !== null && { team: teamName(team) }), ...(value !== null && { value: String(value) }) };

@@ -111,9 +111,9 @@ var Cnum = globalThis.Cnum || {};
             const step = buttonOf(run.STEP, say('step'), say('step_of', { process }));
             const stop = buttonOf(run.STOP, say('stop'), say('stop_of', { process }));
             const crash = buttonOf(run.CRASH, say('crash'), say('crash_of', { process }));
-            const places = path.map(({ node, team, operation }) => {
-                const mark = element('span', { class: `team-${team}` }, say('team', { team }));
-                return element('li', {}, say('node_of_path', { node }), mark, `, ${operation}`);
+            const places = path.map(it => {
+                const mark = element('span', { class: `team-${it.team}` }, say('team', it));
+                return element('li', {}, say('node_of_path', it), mark, `, ${Cnum.plans.taskAt(this.plan, it)}`);
             });
             const decision = element('p', { class: 'decision' });
             const memory = element('p', { class: 'memory' });

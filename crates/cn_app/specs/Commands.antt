@@ -15,6 +15,7 @@ pub mod Pairs
 pub mod Replay
 pub mod Serve
 pub mod Shortest
+pub mod ShortestCost
 pub mod Show
 pub mod ShowShortest
 pub mod Why

@@ -1,9 +1,11 @@
 -- The words of C.
 use Rattle.std.specs.Prelude.{ℕ, List, ◌++◌, codes}
+use Rattle.cn_code.specs.LookCWords.{c_mixed_word, c_response_word}
 use Rattle.cn_code.specs.TournamentCWords.{c_own_tournament_word, c_tournament_word}
 use Rattle.cn_code.specs.TreeCWords.{c_blind_word, c_look_word, c_tree_word}
 use Rattle.cn_code.specs.declared.language.Form.{Form}
 use Rattle.cn_code.specs.declared.language.Form.TheVariants.{Tournament, LookTree, BlindTree}
+use Rattle.cn_code.specs.declared.language.Form.TheVariants.{ResponseTree, MixedTree}
 use Rattle.cn_code.specs.declared.language.OwnPart.{OwnPart}
 use Rattle.cn_code.specs.declared.language.Part.{Part}
 use Rattle.cn_code.specs.declared.language.Part.TheVariants.{Title, TypeName, Intro, Claims}
@@ -95,6 +97,8 @@ unfoldable pub c_own_word : Form → OwnPart → List ℕ
 c_own_word Tournament part = c_own_tournament_word part
 c_own_word LookTree part = c_look_word part
 c_own_word BlindTree part = c_blind_word part
+c_own_word ResponseTree part = c_response_word part
+c_own_word MixedTree part = c_mixed_word part
 
 unfoldable pub c_word : Part → List ℕ
 c_word Title = codes "/* Consensus among "

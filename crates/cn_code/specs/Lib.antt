@@ -1,6 +1,8 @@
 pub mod CWords
 pub mod Code
 pub mod Frame
+pub mod LookCWords
+pub mod LookRustWords
 pub mod RustWords
 pub mod TournamentCWords
 pub mod TournamentRustWords

@@ -1,9 +1,11 @@
 -- The words of Rust.
 use Rattle.std.specs.Prelude.{ℕ, List, ◌++◌, codes}
+use Rattle.cn_code.specs.LookRustWords.{rust_mixed_word, rust_response_word}
 use Rattle.cn_code.specs.TournamentRustWords.{rust_own_tournament_word, rust_tournament_word}
 use Rattle.cn_code.specs.TreeRustWords.{rust_blind_word, rust_look_word, rust_tree_word}
 use Rattle.cn_code.specs.declared.language.Form.{Form}
 use Rattle.cn_code.specs.declared.language.Form.TheVariants.{Tournament, LookTree, BlindTree}
+use Rattle.cn_code.specs.declared.language.Form.TheVariants.{ResponseTree, MixedTree}
 use Rattle.cn_code.specs.declared.language.OwnPart.{OwnPart}
 use Rattle.cn_code.specs.declared.language.Part.{Part}
 use Rattle.cn_code.specs.declared.language.Part.TheVariants.{Title, TypeName, Intro, Claims}
@@ -96,6 +98,8 @@ unfoldable pub rust_own_word : Form → OwnPart → List ℕ
 rust_own_word Tournament part = rust_own_tournament_word part
 rust_own_word LookTree part = rust_look_word part
 rust_own_word BlindTree part = rust_blind_word part
+rust_own_word ResponseTree part = rust_response_word part
+rust_own_word MixedTree part = rust_mixed_word part
 
 unfoldable pub rust_word : Part → List ℕ
 rust_word Title = codes "//! Consensus among "

@@ -10,6 +10,7 @@ use Rattle.cn_code.specs.declared.language.OwnPart.TheVariants.{Judge}
 use Rattle.cn_code.specs.declared.language.TreePart.{TreePart}
 use Rattle.cn_code.specs.declared.language.TreePart.TheVariants.{Teams, Steps, Starts, StartState}
 use Rattle.cn_code.specs.declared.language.TreePart.TheVariants.{StartNode, StartName, LooksField}
+use Rattle.cn_code.specs.declared.language.TreePart.TheVariants.{LookField, LookEnd, NoLook, LookName}
 use Rattle.cn_code.specs.declared.language.TreePart.TheVariants.{JudgementField, JudgementNumber}
 
 unfoldable pub c_tree_word : TreePart → List ℕ
@@ -32,6 +33,10 @@ c_tree_word StartState = codes "    "
 c_tree_word StartNode = codes ", /* node "
 c_tree_word StartName = codes ": "
 c_tree_word LooksField = codes ", .looks = "
+c_tree_word LookField = codes ", .look = "
+c_tree_word LookEnd = codes ""
+c_tree_word NoLook = codes ", .look = -1"
+c_tree_word LookName = codes ", look: "
 c_tree_word JudgementField = codes ", .judgement = "
 c_tree_word JudgementNumber = codes "    /* judgement "
 
@@ -45,7 +50,7 @@ c_tree_zeros =
     codes "for (unsigned team = 0; team < CONSENSUS_TEAMS; team++)\n"
     ++ codes "            atomic_init(&node->registers[team], 0);"
 
--- where some process looks
+-- where some process reads, and none looks by an operation
 unfoldable pub c_look_word : OwnPart → List ℕ
 c_look_word Meet = c_tree_meet
 c_look_word Bound =

@@ -1,11 +1,15 @@
 -- What the processes of a plan tree judge. Where they judge alike, they have one judgement.
-use Rattle.std.specs.Prelude.{ℕ, ◌<◌, ◌==◌, ◌&&◌, Bool, List, [], ◌∷◌, ◌++◌, length, fold}
-use Rattle.std.specs.Prelude.{if◌then◌else◌, slice_index_or}
+use Rattle.std.specs.Prelude.{ℕ, ◌<◌, ◌==◌, ◌&&◌, Bool, true, false, List, [], ◌∷◌, ◌++◌, length}
+use Rattle.std.specs.Prelude.{fold, if◌then◌else◌, slice_index_or}
 use Rattle.std.specs.List.{list_all, list_any, position_or_len, range_with_len}
+use Rattle.cn_meetings.specs.Sights.{reads, sight_of}
 use Rattle.cn_meetings.specs.Witness.{Has}
+use Rattle.cn_meetings.specs.declared.sight.Sight.{Sight}
+use Rattle.cn_meetings.specs.declared.sight.Sight.TheVariants.{Nothing, Response, State}
 use Rattle.cn_trees.specs.Steps.{looks_at}
 use Rattle.cn_trees.specs.Tree.{comes_to, nodes_of, path_of, place_of, processes_of}
 use Rattle.cn_tree_plans.specs.Plan.{TreePlan, no_meeting, tree_of}
+use Rattle.cn_tree_plans.specs.Sights.{seen_count}
 use Rattle.cn_code.specs.declared.tree.seats.Seat.{Seat}
 
 -- the process comes to the node
@@ -20,24 +24,39 @@ seat_of plan p i = record { node = (place_of (tree_of plan) p i).node; process =
 abbrev pub looks : TreePlan → Seat → Bool
 looks plan x = looks_at (tree_of plan) x.node x.process
 
--- some process looks at an object
-abbrev pub some_look : TreePlan → Bool
-some_look plan =
-    list_any (λ v. (slice_index_or plan.meetings v no_meeting).reads)
-    (range_with_len 0 (nodes_of (tree_of plan)))
+-- how the processes of node v look
+abbrev pub sight_at : TreePlan → ℕ → Sight
+sight_at plan v = (slice_index_or plan.meetings v no_meeting).sight
 
--- by so many states a process judges: by all where it looks, else by state 0 alone
+-- some process reads an object
+abbrev pub some_read : TreePlan → Bool
+some_read plan =
+    list_any (λ v. reads (sight_at plan v)) (range_with_len 0 (nodes_of (tree_of plan)))
+
+-- a process looks by an operation
+abbrev pub is_response : Sight → Bool
+is_response State = false
+is_response Nothing = false
+is_response (Response o) = true
+
+-- some process looks by an operation
+abbrev pub some_response : TreePlan → Bool
+some_response plan =
+    list_any (λ v. is_response (sight_at plan v)) (range_with_len 0 (nodes_of (tree_of plan)))
+
+-- a process can see so much: each state where it reads, each response where it looks by an operation,
+-- and where it does not look 0 alone
 abbrev pub columns : TreePlan → Seat → ℕ
-columns plan x = if looks plan x then length plan.table.states else 1
+columns plan x = seen_count plan.table (sight_of (sight_at plan x.node))
 
--- the team that it judges to have come first, by a response and a state
+-- the team that it judges to have come first, by a response and what it saw
 abbrev pub team_first : TreePlan → Seat → ℕ → ℕ → ℕ
-team_first plan x response state = (tree_of plan).judge x.node x.process response state
+team_first plan x response saw = (tree_of plan).judge x.node x.process response saw
 
--- two processes judge alike by a response and a state
+-- two processes judge alike by a response and what they saw
 abbrev pub is_alike : TreePlan → Seat → Seat → ℕ → ℕ → Bool
-is_alike plan x y response state =
-    team_first plan x response state == team_first plan y response state
+is_alike plan x y response saw =
+    team_first plan x response saw == team_first plan y response saw
 
 abbrev pub are_alike : TreePlan → Seat → Seat → ℕ → Bool
 are_alike plan x y response =
@@ -47,7 +66,7 @@ abbrev pub all_alike : TreePlan → Seat → Seat → Bool
 all_alike plan x y =
     list_all (are_alike plan x y) (range_with_len 0 (length plan.table.responses))
 
--- they judge alike by each response, and by as many states
+-- they judge alike by each response and all that they can see, and can see as much
 abbrev pub judge_alike : TreePlan → Seat → Seat → Bool
 judge_alike plan x y = (columns plan x == columns plan y) && all_alike plan x y
 

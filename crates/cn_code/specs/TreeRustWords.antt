@@ -10,6 +10,7 @@ use Rattle.cn_code.specs.declared.language.OwnPart.TheVariants.{Judge}
 use Rattle.cn_code.specs.declared.language.TreePart.{TreePart}
 use Rattle.cn_code.specs.declared.language.TreePart.TheVariants.{Teams, Steps, Starts, StartState}
 use Rattle.cn_code.specs.declared.language.TreePart.TheVariants.{StartNode, StartName, LooksField}
+use Rattle.cn_code.specs.declared.language.TreePart.TheVariants.{LookField, LookEnd, NoLook, LookName}
 use Rattle.cn_code.specs.declared.language.TreePart.TheVariants.{JudgementField, JudgementNumber}
 
 unfoldable pub rust_tree_word : TreePart → List ℕ
@@ -33,6 +34,10 @@ rust_tree_word StartState = codes "    "
 rust_tree_word StartNode = codes ", // node "
 rust_tree_word StartName = codes ": "
 rust_tree_word LooksField = codes ", looks: "
+rust_tree_word LookField = codes ", look: Some("
+rust_tree_word LookEnd = codes ")"
+rust_tree_word NoLook = codes ", look: None"
+rust_tree_word LookName = codes ", look: "
 rust_tree_word JudgementField = codes ", judgement: "
 rust_tree_word JudgementNumber = codes "    // judgement "
 
@@ -41,7 +46,7 @@ rust_tree_meet =
     codes "at the nodes of a tree: each node has an object, and a\n"
     ++ codes "//! register for each of its teams."
 
--- where some process looks
+-- where some process reads, and none looks by an operation
 unfoldable pub rust_look_word : OwnPart → List ℕ
 rust_look_word Meet = rust_tree_meet
 rust_look_word Bound =

@@ -4,7 +4,9 @@ use Rattle.std.specs.Prelude.{ℕ, Bool, true, false, List, ◌++◌, length, co
 use Rattle.std.specs.Prelude.{if◌then◌else◌, slice_index_or, []}
 use Rattle.std.specs.List.{range_with_len}
 use Rattle.cn_table.specs.Names.{name_at}
-use Rattle.cn_table.specs.TypeTable.{operation_names}
+use Rattle.cn_table.specs.TypeTable.{TypeTable, operation_names}
+use Rattle.cn_meetings.specs.declared.sight.Sight.{Sight}
+use Rattle.cn_meetings.specs.declared.sight.Sight.TheVariants.{Nothing, Response, State}
 use Rattle.cn_trees.specs.Tree.{Place, nodes_of, path_of, place_of, processes_of}
 use Rattle.cn_tree_costs.specs.Cost.{cost, greatest}
 use Rattle.cn_tree_costs.specs.Nodes.{node_at}
@@ -12,9 +14,11 @@ use Rattle.cn_tree_costs.specs.Sizes.{sizes_of}
 use Rattle.cn_tree_plans.specs.Plan.{TreePlan, no_meeting, tree_of}
 use Rattle.cn_code.specs.Frame.{all_names, comma, number_code, numbers_code, own_word, places_word}
 use Rattle.cn_code.specs.Frame.{program_code, text_code, word}
-use Rattle.cn_code.specs.TreeJudgements.{columns, judges_of, looks, number_among, seat_of, some_look, team_first}
+use Rattle.cn_code.specs.TreeJudgements.{columns, judges_of, looks, number_among, seat_of, sight_at}
+use Rattle.cn_code.specs.TreeJudgements.{some_read, some_response, team_first}
 use Rattle.cn_code.specs.declared.language.Form.{Form}
 use Rattle.cn_code.specs.declared.language.Form.TheVariants.{LookTree, BlindTree}
+use Rattle.cn_code.specs.declared.language.Form.TheVariants.{ResponseTree, MixedTree}
 use Rattle.cn_code.specs.declared.language.Language.{Language}
 use Rattle.cn_code.specs.declared.language.Language.TheVariants.{Rust, C}
 use Rattle.cn_code.specs.declared.language.OwnPart.TheVariants.{Judgements, Row, ResponseName}
@@ -24,12 +28,15 @@ use Rattle.cn_code.specs.declared.language.Part.TheVariants.{JudgementStart, Jud
 use Rattle.cn_code.specs.declared.language.Part.TheVariants.{InTree, Own}
 use Rattle.cn_code.specs.declared.language.TreePart.TheVariants.{Teams, Steps, Starts, StartState}
 use Rattle.cn_code.specs.declared.language.TreePart.TheVariants.{StartNode, StartName, LooksField}
+use Rattle.cn_code.specs.declared.language.TreePart.TheVariants.{LookField, LookEnd, NoLook, LookName}
 use Rattle.cn_code.specs.declared.language.TreePart.TheVariants.{JudgementField, JudgementNumber}
 use Rattle.cn_code.specs.declared.tree.seats.Seat.{Seat}
 
 -- the form of the program of a plan tree
 abbrev pub form_of : TreePlan → Form
-form_of plan = if some_look plan then LookTree else BlindTree
+form_of plan =
+    if some_response plan then (if some_read plan then MixedTree else ResponseTree)
+    else (if some_read plan then LookTree else BlindTree)
 
 -- ---- the head
 
@@ -74,10 +81,26 @@ abbrev pub truth : Bool → List ℕ
 truth true = codes "true"
 truth false = codes "false"
 
--- whether a process looks, unless none does
+-- whether a process looks, if some process reads
 abbrev pub looks_code : Language → TreePlan → Seat → List ℕ
 looks_code l plan x =
-    if some_look plan then text_code l (InTree LooksField) (truth (looks plan x)) else []
+    if some_read plan then text_code l (InTree LooksField) (truth (looks plan x)) else []
+
+-- the operation by which a process looks, or that it looks by none
+abbrev pub sight_code : Language → Sight → List ℕ
+sight_code l State = word l (InTree NoLook)
+sight_code l Nothing = word l (InTree NoLook)
+sight_code l (Response o) = number_code l (InTree LookField) o.0 ++ word l (InTree LookEnd)
+
+-- this, if some process looks by an operation
+abbrev pub look_code : Language → TreePlan → Seat → List ℕ
+look_code l plan x = if some_response plan then sight_code l (sight_at plan x.node) else []
+
+-- the name of the operation by which a process looks, if it does
+abbrev pub look_name : Language → TypeTable → Sight → List ℕ
+look_name l t State = []
+look_name l t Nothing = []
+look_name l t (Response o) = text_code l (InTree LookName) (name_at (operation_names t) o.0)
 
 -- a process, its node and its team there
 abbrev pub tree_stand : Language → ℕ → Place → List ℕ
@@ -88,17 +111,25 @@ tree_stand l p place =
 abbrev pub operation_of : TreePlan → Seat → ℕ
 operation_of plan x = ((tree_of plan).meeting x.node).operation x.process
 
--- its judgement, and in a comment the name of its operation
+-- in a comment the name of its operation, and that of the operation by which it looks
+abbrev pub act_names : Language → TreePlan → Seat → List ℕ
+act_names l plan x =
+    text_code l OperationName (name_at (operation_names plan.table) (operation_of plan x))
+    ++ look_name l plan.table (sight_at plan x.node) ++ word l LineEnd
+
+-- its judgement, and these names
 abbrev pub judged_code : Language → TreePlan → List Seat → Seat → List ℕ
 judged_code l plan judges x =
-    number_code l (InTree JudgementField) (number_among plan judges x)
-    ++ text_code l OperationName (name_at (operation_names plan.table) (operation_of plan x))
-    ++ word l LineEnd
+    number_code l (InTree JudgementField) (number_among plan judges x) ++ act_names l plan x
 
--- its operation, whether it looks, and its judgement
+-- whether it looks, and by which operation
+abbrev pub sight_fields : Language → TreePlan → Seat → List ℕ
+sight_fields l plan x = looks_code l plan x ++ look_code l plan x
+
+-- its operation, how it looks, and its judgement
 abbrev pub tree_act : Language → TreePlan → List Seat → Seat → List ℕ
 tree_act l plan judges x =
-    number_code l OperationField (operation_of plan x) ++ looks_code l plan x
+    number_code l OperationField (operation_of plan x) ++ sight_fields l plan x
     ++ judged_code l plan judges x
 
 -- place i of the path of process p
@@ -119,9 +150,9 @@ tree_places l plan judges =
 -- ---- judgements
 
 abbrev pub tree_cell : TreePlan → Seat → ℕ → ℕ → List ℕ
-tree_cell plan x response state = comma state ++ decimal (team_first plan x response state)
+tree_cell plan x response saw = comma saw ++ decimal (team_first plan x response saw)
 
--- the teams for all states by which a process judges
+-- the teams for all that a process can see
 abbrev pub tree_cells : TreePlan → Seat → ℕ → List ℕ
 tree_cells plan x response =
     flat_map (tree_cell plan x response) (range_with_len 0 (columns plan x))

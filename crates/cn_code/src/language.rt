@@ -3,9 +3,11 @@ ghost use Rattle.std.specs.Prelude.{◌≡◌};
 ghost use Rattle.cn_code.specs.Frame.{word};
 
 mod c;
+mod c_looks;
 mod c_tournament;
 mod c_tree;
 mod rust;
+mod rust_looks;
 mod rust_tournament;
 mod rust_tree;
 
@@ -24,10 +26,14 @@ pub(crate) enum Language {
 pub(crate) enum Form {
     /// A plan: a tournament, at whose nodes two teams meet.
     Tournament,
-    /// A plan tree in which some process looks at an object.
+    /// A plan tree in which some process reads an object, and none looks by an operation.
     LookTree,
-    /// A plan tree in which none does.
+    /// A plan tree in which no process looks.
     BlindTree,
+    /// A plan tree in which some process looks by an operation, and none reads.
+    ResponseTree,
+    /// A plan tree in which some process looks by an operation, and some reads.
+    MixedTree,
 }
 
 /// A text of a language that is the same for every plan. Each ends where a text of the plan, or of
@@ -149,6 +155,14 @@ pub(crate) enum TreePart {
     StartName,
     /// In the line of a place, up to whether the process looks.
     LooksField,
+    /// Up to the operation by which it looks.
+    LookField,
+    /// Behind this operation.
+    LookEnd,
+    /// That it looks by no operation.
+    NoLook,
+    /// Up to the name of this operation, in the comment.
+    LookName,
     /// Up to the number of its judgement.
     JudgementField,
     /// In a judgement, up to its number.

@@ -8,6 +8,7 @@ mod head;
 mod judgements;
 mod places;
 mod seats;
+mod sights;
 mod starts;
 
 use crate::frame::push_program;
@@ -23,11 +24,12 @@ use std::alloc::{AllocError, Global};
 
 /// The program of a plan tree in Rust: one file, of any edition, without dependencies and `unsafe`.
 ///
-/// It has a trait `Object` with `apply`, and with `read` only if some process looks at an object; and
-/// a struct `Consensus` with `new` and `decide`. `decide` takes the steps of the plan: at each place
-/// of the path it writes its value, applies its operation, reads the object if the place says so,
-/// and takes the value of the team that was first. The constant `STEPS` is the most steps of a
-/// process, and `STARTS` has the state in which the object of each node starts.
+/// It has a trait `Object` with `apply`, and with `read` only if some process reads an object; and a
+/// struct `Consensus` with `new` and `decide`. `decide` takes the steps of the plan: at each place of
+/// the path it writes its value, applies its operation, looks at the object if the place says so, and
+/// takes the value of the team that was first. To look is to read the object, or to apply one more
+/// operation, which changes no state. The constant `STEPS` is the most steps of a process, and
+/// `STARTS` has the state in which the object of each node starts.
 ///
 /// Teams, states, operations, responses, processes and nodes are numbers. Names stand in texts and
 /// comments alone, as in the program of a plan of two teams ([`as_rust`](crate::as_rust)).
@@ -45,7 +47,7 @@ pub fn tree_as_rust(alloc: Global, plan: &TreePlan) -> Result<String, AllocError
 /// The program of a plan tree in C: one file of C11 with headers of the standard alone. It can also
 /// be included in one other file.
 ///
-/// It has a struct `consensus_object` with `apply`, and with `read` only if some process looks at an
+/// It has a struct `consensus_object` with `apply`, and with `read` only if some process reads an
 /// object, and a struct `consensus` with `consensus_new` and `consensus_decide`. Else it is as the
 /// text of [`tree_as_rust`].
 ///

@@ -11,10 +11,8 @@ use Rattle.cn_divisions.specs.declared.divisions.Division.{Division}
 use Rattle.cn_divisions.specs.Divisions.{AreParted, DifferInSizes, HaveSizesOf, IsDivision, IsFinestOf, IsMeetingOf, operations_of, teams_of}
 use Rattle.cn_divisions.specs.Found.{HasDivisionOf, HaveSizes, IsAdded, IsExtended}
 use Rattle.cn_divisions.specs.declared.levels.Setting.{Setting}
-use Rattle.cn_divisions.specs.declared.sights.Sight.{Sight as LookOf}
 use Rattle.cn_divisions.specs.Joins.{IsSplit}
 use Rattle.cn_divisions.specs.Levels.{HasLessStarts, HasStarts}
-use Rattle.cn_divisions.specs.Sights.{sight_of}
 use Rattle.cn_divisions.specs.Sizes.{AreSizes}
 use Rattle.cn_divisions.proofs.Finding.{parted_split}
 use Rattle.cn_divisions.proofs.Links.{process_of}
@@ -128,9 +126,9 @@ found_skip t sight items old k found many none so = record {
 }
 
 -- a stock of three operations or more is split only from states in the set
-pub less_set : (s : Setting) (sight : LookOf) (set : ℕ) → HasLessStarts s sight set → 3 ≤ length s.stock.now.operations.items → HasStarts s.table.now sight s.stock.now.operations.items set
+pub less_set : (s : Setting) (sight : Sight) (set : ℕ) → HasLessStarts s sight set → 3 ≤ length s.stock.now.operations.items → HasStarts s.table.now sight s.stock.now.operations.items set
 less_set s sight set less many q l split =
-    let r = less_split s.table.now (sight_of sight) q s.stock.now.operations.items many split in
+    let r = less_split s.table.now sight q s.stock.now.operations.items many split in
     less r.0 r.1 r.2 q l r.3
 
 -- the operations of a meeting are those of the type

@@ -30,6 +30,10 @@ module _ (t : TypeTable) (is : IsTypeTable t) where
   known : (o : ℕ) → IsKnownRow t (get_or t.operations o no_row)
   known o = listed_or (IsKnownRow t) t.operations o no_row (known_rows t.operations is.rows) (record { gives = λ s. is.responses.some; leads = λ s. is.states.some })
 
+  -- the response in a state
+  pub answer_known : (o q : ℕ) → (transition t o q).0 < length t.responses
+  answer_known o q = (known o).gives q
+
   state_known : (os : List ℕ) (s : ℕ) → s < length t.states → state_after t s os < length t.states
   state_known [] s l = l
   state_known (o ∷ os) s l = state_known os (transition t o s).1 ((known o).leads s)

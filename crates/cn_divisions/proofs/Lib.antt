@@ -1,9 +1,9 @@
+pub mod Alike
 pub mod Counting
 pub mod Extending
 pub mod Finding
 pub mod Known
 pub mod Links
-pub mod Looks
 pub mod Merging
 pub mod ProcessTeams
 pub mod SameSizes

@@ -5,9 +5,12 @@ use Rattle.std.specs.List.{range_with_len}
 use Rattle.cn_table.specs.TypeTable.{TypeTable}
 use Rattle.cn_meetings.specs.Division as division
 use Rattle.cn_meetings.specs.Meeting.{Meeting, Sight}
-use Rattle.cn_meetings.specs.Meeting.Sight.{Nothing, State}
+use Rattle.cn_stocks.specs.Each.{EachAt}
 use Rattle.cn_divisions.specs.declared.divisions.Division.{Division}
 use Rattle.cn_divisions.specs.declared.search.Divisions.{Divisions}
+use Rattle.cn_divisions.specs.declared.search.SightDivisions.{SightDivisions}
+use Rattle.cn_meetings.specs.declared.sight.Sight as sights
+use Rattle.cn_meetings.specs.Sights.{sight_of}
 use Rattle.cn_divisions.specs.Sizes.{AreSizes}
 
 -- the first n processes
@@ -85,6 +88,12 @@ pub record AreAllSizes (t : TypeTable) (sight : Sight) (n : ℕ) (divisions : Li
     pub once : DifferInSizes divisions
     pub all : (M : Meeting) → IsMeetingOf t sight n M → HaveSizesOf t n M divisions
 
--- the divisions of n processes by each sight
-abbrev pub AreDivisions : TypeTable → ℕ → Divisions → Type 0
-AreDivisions t n d = AreAllSizes t State n d.state.items × AreAllSizes t Nothing n d.nothing.items
+-- the divisions of n processes that all have the sight at this place of the list
+pub record AreOfSight (t : TypeTable) (list : List sights.Sight) (n i : ℕ) (d : SightDivisions)
+    : Type 0 where
+  pub sight_is : slice_get list i ≡ Some d.sight
+  pub all : AreAllSizes t (sight_of d.sight) n d.list.items
+
+-- the divisions of n processes by each of these sights, in their order
+abbrev pub AreDivisions : TypeTable → List sights.Sight → ℕ → Divisions → Type 0
+AreDivisions t list n d = EachAt (AreOfSight t list n) (length list) d.by_sight.items

@@ -1,6 +1,7 @@
 -- What is known of all stocks of one number of operations.
 use Rattle.std.specs.Prelude.{◌≡◌, ℕ, ◌<◌, List, ◌∷◌, length, slice_get, Some, IsBitSet}
 use Rattle.cn_table.specs.TypeTable.{TypeTable}
+use Rattle.cn_meetings.specs.Meeting.{Sight}
 use Rattle.cn_stocks.specs.declared.stocks.Stock.{Stock}
 use Rattle.cn_stocks.specs.Each.{EachAt}
 use Rattle.cn_stocks.specs.Reach.{AreEnds, AreShown}
@@ -9,12 +10,11 @@ use Rattle.cn_stocks.specs.Words.{HaveSame}
 use Rattle.cn_divisions.specs.declared.levels.Level.{Level}
 use Rattle.cn_divisions.specs.declared.levels.Setting.{Setting}
 use Rattle.cn_divisions.specs.declared.levels.Starts.{Starts}
-use Rattle.cn_divisions.specs.declared.sights.Sight.{Sight}
-use Rattle.cn_divisions.specs.declared.sights.Sight.TheVariants.{Nothing, State}
+use Rattle.cn_meetings.specs.declared.sight.Sight as sights
 use Rattle.cn_divisions.specs.declared.word_sets.Ends.{Ends}
 use Rattle.cn_divisions.specs.declared.word_sets.Shown.{Shown}
 use Rattle.cn_divisions.specs.Joins.{IsSplit}
-use Rattle.cn_divisions.specs.Sights.{sight_of}
+use Rattle.cn_meetings.specs.Sights.{sight_of}
 
 -- the states in which words end, for each of the first stocks
 abbrev pub AreAllEnds : TypeTable → List Stock → ℕ → List Ends → Type 0
@@ -28,7 +28,7 @@ AreAllShown t stocks count shown = EachAt (λ i shown. (s : Stock) → slice_get
 
 -- the set has each state from which the stock is split
 abbrev pub HasStarts : TypeTable → Sight → List ℕ → ℕ → Type 0
-HasStarts t sight stock set = (q : ℕ) → q < length t.states → IsSplit t (sight_of sight) q stock
+HasStarts t sight stock set = (q : ℕ) → q < length t.states → IsSplit t sight q stock
     → IsBitSet set q
 
 -- such a set for each of the first stocks
@@ -36,22 +36,17 @@ abbrev pub AreStarts : TypeTable → Sight → List Stock → ℕ → List ℕ �
 AreStarts t sight stocks count sets = EachAt (λ i set. (s : Stock) → slice_get stocks i ≡ Some s
     → HasStarts t sight s.operations.items set) count sets
 
--- the sets by this sight
-abbrev pub starts_by : Sight → Starts → List ℕ
-starts_by State starts = starts.state.items
-starts_by Nothing starts = starts.nothing.items
-
--- such sets for all stocks, by each sight
-abbrev pub AreAllStarts : TypeTable → List Stock → Starts → Type 0
-AreAllStarts t stocks starts =
-    (sight : Sight) → AreStarts t sight stocks (length stocks) (starts_by sight starts)
+-- such sets for all stocks, by each of the sights
+abbrev pub AreAllStarts : TypeTable → List sights.Sight → List Stock → List Starts → Type 0
+AreAllStarts t list stocks starts = EachAt (λ i s. (sight : sights.Sight)
+    → slice_get list i ≡ Some sight
+    → AreStarts t (sight_of sight) stocks (length stocks) s.sets.items) (length list) starts
 
 -- the sets of all stocks of the level
 pub record IsLevel (t : TypeTable) (level : Level) : Type 0 where
   pub ends : AreAllEnds t level.stocks.list.items (length level.stocks.list.items) level.ends.items
   pub shown : AreAllShown t level.stocks.list.items (length level.stocks.list.items)
       level.shown.items
-  pub starts : AreAllStarts t level.stocks.list.items level.starts
 
 -- a stock of one operation more than those of the level
 pub record IsNext (t : TypeTable) (level : Level) (stock : Stock) : Type 0 where

@@ -3,6 +3,7 @@ pub mod Divisions
 pub mod Found
 pub mod Joins
 pub mod Levels
+pub mod Looks
 pub mod Searches
 pub mod Sights
 pub mod Sizes

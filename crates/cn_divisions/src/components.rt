@@ -3,11 +3,12 @@ ghost use Rattle.std.specs.Prelude.{◌≡◌, ◌≢◌, ◌<◌, ◌+◌, ℕ,
 ghost use Rattle.cn_meetings.specs.Meeting.{Sight as SightOf};
 ghost use Rattle.cn_divisions.specs.Joins.{AreComponents, AreComponentsSoFar, AreJoined, IsMerged};
 ghost use Rattle.cn_divisions.specs.Levels.{IsSetting};
-ghost use Rattle.cn_divisions.specs.Sights.{sight_of};
+ghost use Rattle.cn_divisions.specs.Looks.{IsLook};
+ghost use Rattle.cn_meetings.specs.Sights.{sight_of};
 
 use crate::joins::are_joined;
 use crate::levels::Setting;
-use crate::sights::Sight;
+use crate::looks::Look;
 use cn_table::MOST_OPERATIONS;
 
 /// For each operation the number of its team.
@@ -59,19 +60,20 @@ fn is_open(setting: &Setting<'_>, teams: &Teams, f: u8, g: u8) -> bool
 
 /// The teams where that of the operation and those of the lower operations which are joined with it
 /// become one.
-fn with_joined(setting: &Setting<'_>, sight: Sight, start: u8, teams: &Teams, g: u8) -> Teams
+fn with_joined(setting: &Setting<'_>, look: &Look, start: u8, teams: &Teams, g: u8) -> Teams
     requires setting { IsSetting setting.now }
+    requires look { IsLook setting.now.table.now look.now }
     requires start { start < length setting.now.table.now.states }
     requires g { g < length setting.now.table.now.operations }
-    requires teams { AreComponentsSoFar setting.now.table.now (sight_of sight) start
+    requires teams { AreComponentsSoFar setting.now.table.now (sight_of look.now.sight) start
         setting.now.stock.now.operations.items g teams.now }
-    ensures { AreComponentsSoFar setting.now.table.now (sight_of sight) start
+    ensures { AreComponentsSoFar setting.now.table.now (sight_of look.now.sight) start
         setting.now.stock.now.operations.items (g + 1) result }
 {
     let _operations = setting.table.operations();
     let mut merging = *teams;
     for f in 0..g {
-        if is_open(setting, &merging, f, g) && are_joined(setting, sight, start, f, g) {
+        if is_open(setting, &merging, f, g) && are_joined(setting, look, start, f, g) {
             merging = merged(&merging, f, g);
         }
     }
@@ -79,16 +81,17 @@ fn with_joined(setting: &Setting<'_>, sight: Sight, start: u8, teams: &Teams, g:
 }
 
 /// The teams of the operations: the components of those that are joined.
-pub(crate) fn components(setting: &Setting<'_>, sight: Sight, start: u8) -> Teams
+pub(crate) fn components(setting: &Setting<'_>, look: &Look, start: u8) -> Teams
     requires setting { IsSetting setting.now }
+    requires look { IsLook setting.now.table.now look.now }
     requires start { start < length setting.now.table.now.states }
-    ensures are { AreComponents setting.now.table.now (sight_of sight) start
+    ensures are { AreComponents setting.now.table.now (sight_of look.now.sight) start
         setting.now.stock.now.operations.items MOST_OPERATIONS result }
     ensures small { (f : ℕ) → f < MOST_OPERATIONS → slice_index result f < MOST_OPERATIONS }
 {
     let mut teams = [0, 1, 2, 3, 4, 5, 6, 7];
     for g in 0..setting.table.operations() {
-        teams = with_joined(setting, sight, start, &teams, g);
+        teams = with_joined(setting, look, start, &teams, g);
     }
     teams
 }

@@ -5,10 +5,11 @@ ghost use Rattle.cn_divisions.specs.Divisions.{IsDivision};
 ghost use Rattle.cn_divisions.specs.Found.{HasDivisionOf, HaveSizes, IsAdded};
 ghost use Rattle.cn_divisions.specs.Joins.{IsSplit};
 ghost use Rattle.cn_divisions.specs.Levels.{IsSetting};
-ghost use Rattle.cn_divisions.specs.Sights.{sight_of};
+ghost use Rattle.cn_divisions.specs.Looks.{IsLook};
+ghost use Rattle.cn_meetings.specs.Sights.{sight_of};
 
 use crate::levels::Setting;
-use crate::sights::Sight;
+use crate::looks::Look;
 use crate::sizes::{Numbers, sizes};
 use crate::teams::{is_parted, process_teams};
 use arrayvec::ArrayVec;
@@ -40,19 +41,20 @@ fn list_of(numbers: &[u8]) -> Numbers
 
 /// The finest division of the processes that do the operations of the stock, if some are in
 /// different teams.
-pub(crate) fn finest(setting: &Setting<'_>, sight: Sight, start: u8) -> Option<Division>
+pub(crate) fn finest(setting: &Setting<'_>, look: &Look, start: u8) -> Option<Division>
     requires setting { IsSetting setting.now }
+    requires look { IsLook setting.now.table.now look.now }
     requires start { start < length setting.now.table.now.states }
     requires few { length setting.now.stock.now.operations.items ≤ MOST_PROCESSES }
     requires many { 2 ≤ length setting.now.stock.now.operations.items }
-    ensures is { IfSome result (IsDivision setting.now.table.now (sight_of sight)
+    ensures is { IfSome result (IsDivision setting.now.table.now (sight_of look.now.sight)
         (length setting.now.stock.now.operations.items)) }
-    ensures all { HasDivisionOf setting.now.table.now (sight_of sight) start
+    ensures all { HasDivisionOf setting.now.table.now (sight_of look.now.sight) start
         setting.now.stock.now.operations.items result }
-    ensures split { IsSplit setting.now.table.now (sight_of sight) start
+    ensures split { IsSplit setting.now.table.now (sight_of look.now.sight) start
         setting.now.stock.now.operations.items → IsSome result }
 {
-    let teams = process_teams(setting, sight, start);
+    let teams = process_teams(setting, look, start);
     let sizes = sizes(teams.as_slice());
     if !is_parted(teams.as_slice()) {
         return None;

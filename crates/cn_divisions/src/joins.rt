@@ -4,10 +4,11 @@ ghost use Rattle.cn_stocks.specs.Pairs.{Has};
 ghost use Rattle.cn_stocks.specs.Words.{Shows};
 ghost use Rattle.cn_divisions.specs.Joins.{AreJoined};
 ghost use Rattle.cn_divisions.specs.Levels.{IsSetting};
-ghost use Rattle.cn_divisions.specs.Sights.{sight_of};
+ghost use Rattle.cn_divisions.specs.Looks.{IsLook};
+ghost use Rattle.cn_meetings.specs.Sights.{sight_of};
 
 use crate::levels::Setting;
-use crate::sights::Sight;
+use crate::looks::Look;
 use crate::word_sets::shown_at_once;
 use cn_stocks::pair_sets::PairSet;
 use cn_table::{Operation, State};
@@ -35,12 +36,13 @@ fn shown_by(setting: &Setting<'_>, start: u8, first: u8, asked: u8) -> PairSet
 }
 
 /// Whether words that begin with the two operations tell some operation the same.
-pub(crate) fn are_joined(setting: &Setting<'_>, sight: Sight, start: u8, f: u8, g: u8) -> bool
+pub(crate) fn are_joined(setting: &Setting<'_>, look: &Look, start: u8, f: u8, g: u8) -> bool
     requires setting { IsSetting setting.now }
+    requires look { IsLook setting.now.table.now look.now }
     requires start { start < length setting.now.table.now.states }
     requires f { f < length setting.now.table.now.operations }
     requires g { g < length setting.now.table.now.operations }
-    ensures { IsTrue result ↔ AreJoined setting.now.table.now (sight_of sight) start
+    ensures { IsTrue result ↔ AreJoined setting.now.table.now (sight_of look.now.sight) start
         setting.now.stock.now.operations.items f g }
 {
     let (_responses, _states) = (setting.table.responses(), setting.table.states());
@@ -49,7 +51,7 @@ pub(crate) fn are_joined(setting: &Setting<'_>, sight: Sight, start: u8, f: u8, 
             continue;
         }
         let shown = shown_by(setting, start, f, asked);
-        if sight.confuses(&shown, &shown_by(setting, start, g, asked)) {
+        if look.confuses(&shown, &shown_by(setting, start, g, asked)) {
             return true;
         }
     }

@@ -1,35 +1,16 @@
 //! What is known of all stocks of one number of operations.
 ghost use Rattle.std.specs.Prelude.{◌≡◌, ◌<◌, ◌≤◌, ℕ};
 
-use crate::sights::Sight;
 use crate::word_sets::{Ends, Shown};
 use cn_outcomes::bits::union;
 use cn_stocks::stocks::{Stock, Stocks};
 use cn_table::Table;
 
-/// For each stock the states from which some of its operations are in different teams. Further
-/// states do no harm: they are asked in vain.
+/// For each stock the states from which, by one sight, some of its operations are in different teams.
+/// Further states do no harm: they are asked in vain.
 #[derive(Drop)]
 pub(crate) struct Starts {
-    /// Where each process reads the state.
-    pub state: Vec<u16>,
-    /// Where no process looks at it.
-    pub nothing: Vec<u16>,
-}
-
-impl Starts {
-    ghost use Rattle.std.specs.Prelude.{◌≡◌};
-    ghost use Rattle.cn_divisions.specs.Levels.{starts_by};
-
-    /// The states by this sight.
-    fn by(&self, sight: Sight) -> &[u16]
-        ensures { result.now ≡ starts_by sight self.now }
-    {
-        match sight {
-            Sight::State => self.state.as_slice(),
-            Sight::Nothing => self.nothing.as_slice(),
-        }
-    }
+    pub sets: Vec<u16>,
 }
 
 /// All stocks of one number of operations, and for each what words within it lead to.
@@ -38,7 +19,6 @@ pub(crate) struct Level {
     pub stocks: Stocks,
     pub ends: Vec<Ends>,
     pub shown: Vec<Shown>,
-    pub starts: Starts,
 }
 
 /// A table, a stock, and the stocks of one operation less.
@@ -51,7 +31,8 @@ pub(crate) struct Setting<'s> {
 
 impl<'s> Setting<'s> {
     ghost use Rattle.std.specs.Prelude.{◌≡◌, ◌<◌, ℕ, length, MatchOption};
-    ghost use Rattle.cn_divisions.specs.Levels.{AreLessEnds, AreLessShown, HasLessStarts, IsSetting};
+    ghost use Rattle.cn_meetings.specs.Meeting.{Sight};
+    ghost use Rattle.cn_divisions.specs.Levels.{AreLessEnds, AreLessShown, AreStarts, HasLessStarts, IsSetting};
     ghost use Rattle.cn_stocks.specs.Words.{times};
 
     /// The states in which words within the stock without one of the operation end, where the stock
@@ -88,18 +69,21 @@ impl<'s> Setting<'s> {
         }
     }
 
-    /// The states from which the stock is split with one operation less. Where it has three
-    /// operations or more it is split from no other one.
-    pub fn less_starts(&self, sight: Sight) -> u16
-        requires { IsSetting self.now }
-        ensures { HasLessStarts self.now sight result }
+    /// The states from which the stock is split with one operation less, by those of the stocks of
+    /// the level. Where it has three operations or more it is split from no other one.
+    pub fn less_starts(&self, starts: &Starts) -> u16
+        requires setting { IsSetting self.now }
+        requires long { length starts.now.sets.items ≡ length self.now.level.now.stocks.list.items }
+        ensures { (sight : Sight) → AreStarts self.now.table.now sight
+            self.now.level.now.stocks.list.items (length self.now.level.now.stocks.list.items)
+            starts.now.sets.items → HasLessStarts self.now sight result }
     {
         let _operations = self.table.operations();
-        let starts = self.level.starts.by(sight);
+        let sets = starts.sets.as_slice();
         let mut set = 0;
         for operation in 0..self.table.operations() {
             if let Some(place) = self.stock.less[operation as usize] {
-                set = union(set, starts[place as usize]);
+                set = union(set, sets[place as usize]);
             }
         }
         set

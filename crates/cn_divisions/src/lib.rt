@@ -4,16 +4,18 @@
 //! them came first. Joined processes are in one team, so the components are the finest division, and
 //! each division in which every process can tell the first team has whole teams of it
 //! ([`laws::finest_divisions_are_witnesses`]). [`find_divisions`] answers for each number of
-//! processes all sizes that such divisions of a type have, with an example of each: where processes
-//! read the state behind their operation, and where they do not look.
+//! processes all sizes that such divisions of a type have, with an example of each, by what the
+//! processes see of the state behind their operations ([`Sight`]).
 //!
 //! It goes over stocks, lists of operations (`cn_stocks`): from three processes on those with one
 //! operation are in one team ([`laws::divisions_are_of_operations`]).
 //!
 //! ```text
-//! for divisions in &find_divisions(alloc, &table, 8)? {
-//!     for division in &divisions.nothing {
-//!         println!(rt; "{:?}", division.sizes.as_slice())?;
+//! for divisions in &find_divisions(alloc, &table, &[Sight::Nothing, Sight::State], 8)? {
+//!     for of_sight in &divisions.by_sight {
+//!         for division in &of_sight.list {
+//!             println!(rt; "{:?} {:?}", of_sight.sight, division.sizes.as_slice())?;
+//!         }
 //!     }
 //! }
 //! ```
@@ -24,8 +26,8 @@ mod divisions;
 mod joins;
 pub mod laws;
 mod levels;
+mod looks;
 mod search;
-mod sights;
 mod sizes;
 mod teams;
 #[cfg(test)]
@@ -33,5 +35,5 @@ mod tests;
 mod word_sets;
 
 pub use divisions::Division;
-pub use search::{Divisions, find_divisions};
+pub use search::{Divisions, SightDivisions, find_divisions};
 pub use sizes::Numbers;

@@ -8,25 +8,34 @@ ghost use Rattle.cn_stocks.specs.Words.{HaveSame};
 ghost use Rattle.cn_divisions.specs.Divisions.{AreAllSizes, AreDivisions, DifferInSizes, HaveSizesOf, IsDivision, IsMeetingOf, operations_of};
 ghost use Rattle.cn_divisions.specs.Found.{IsExtended};
 ghost use Rattle.cn_divisions.specs.Levels.{AreNext, AreStarts, HasStarts, IsSetting};
-ghost use Rattle.cn_divisions.specs.Sights.{sight_of};
+ghost use Rattle.cn_divisions.specs.Looks.{IsLook};
+ghost use Rattle.cn_meetings.specs.Sights.{AreSightsOf, sight_of};
 
 use crate::divisions::{Division, add, finest};
 use crate::levels::{Level, Setting, Starts};
-use crate::sights::Sight;
+use crate::looks::{Look, looks};
 use crate::word_sets::{all_ends, all_shown};
 use cn_choice::MOST_PROCESSES;
+use cn_meetings::Sight;
 use cn_outcomes::bits::{contains, with};
 use cn_stocks::stocks::{Stocks, no_operation};
 use cn_table::Table;
 use std::alloc::{AllocError, Global};
 
+/// The divisions of one number of processes, where all have one sight.
+#[derive(Drop)]
+pub struct SightDivisions {
+    /// The sight.
+    pub sight: Sight,
+    /// The divisions.
+    pub list: Vec<Division>,
+}
+
 /// The divisions of one number of processes.
 #[derive(Drop)]
 pub struct Divisions {
-    /// Where each process reads the state.
-    pub state: Vec<Division>,
-    /// Where no process looks at it.
-    pub nothing: Vec<Division>,
+    /// Those by each of the sights, in their order.
+    pub by_sight: Vec<SightDivisions>,
 }
 
 /// Whether the stock may be split from the state, by the states from which it is so with one
@@ -43,49 +52,54 @@ fn may_split(setting: &Setting<'_>, less: u16, start: u8) -> bool
 /// Answers the states from which there is one.
 fn add_stock(
     setting: &Setting<'_>,
-    sight: Sight,
+    look: &Look,
+    starts: &Starts,
     found: &mut Vec<Division>,
 ) -> Result<u16, AllocError>
     requires setting { IsSetting setting.now }
+    requires look { IsLook setting.now.table.now look.now }
+    requires starts { AreStarts setting.now.table.now (sight_of look.now.sight)
+        setting.now.level.now.stocks.list.items
+        (length setting.now.level.now.stocks.list.items) starts.now.sets.items }
     requires few { length setting.now.stock.now.operations.items ≤ MOST_PROCESSES }
     requires many { 2 ≤ length setting.now.stock.now.operations.items }
-    requires are { All (IsDivision setting.now.table.now (sight_of sight)
+    requires are { All (IsDivision setting.now.table.now (sight_of look.now.sight)
         (length setting.now.stock.now.operations.items)) found.now.items }
     requires once { DifferInSizes found.now.items }
-    ensures are { IfOk result (λ _. All (IsDivision setting.now.table.now (sight_of sight)
+    ensures are { IfOk result (λ _. All (IsDivision setting.now.table.now (sight_of look.now.sight)
         (length setting.now.stock.now.operations.items)) found.new.items) }
     ensures once { IfOk result (λ _. DifferInSizes found.new.items) }
     ensures kept { IfOk result (λ _. IsExtended found.old.items found.new.items) }
     ensures all { IfOk result (λ _. (M : Meeting)
-        → IsMeetingOf setting.now.table.now (sight_of sight)
+        → IsMeetingOf setting.now.table.now (sight_of look.now.sight)
         (length setting.now.stock.now.operations.items) M
         → HaveSame setting.now.stock.now.operations.items
         (operations_of M (length setting.now.stock.now.operations.items))
         → HaveSizesOf setting.now.table.now (length setting.now.stock.now.operations.items) M
         found.new.items) }
-    ensures starts { IfOk result (HasStarts setting.now.table.now sight
+    ensures starts { IfOk result (HasStarts setting.now.table.now (sight_of look.now.sight)
         setting.now.stock.now.operations.items) }
 {
     let _states = setting.table.states();
-    let less = setting.less_starts(sight);
-    let mut starts = 0;
+    let less = setting.less_starts(starts);
+    let mut set = 0;
     for start in 0..setting.table.states() {
         if may_split(setting, less, start) {
-            if let Some(division) = finest(setting, sight, start) {
-                starts = with(starts, start);
+            if let Some(division) = finest(setting, look, start) {
+                set = with(set, start);
                 add(found, division)?;
             }
         }
     }
-    Ok(starts)
+    Ok(set)
 }
 
 /// What is found of all stocks by one sight.
 #[derive(Drop)]
 struct Found {
     divisions: Vec<Division>,
-    /// For each stock the states from which there is a division.
-    starts: Vec<u16>,
+    /// The states from which there is a division.
+    starts: Starts,
 }
 
 /// The divisions of n processes, whose operations are one of these stocks.
@@ -94,21 +108,25 @@ fn divisions_of(
     table: &Table,
     level: &Level,
     stocks: &Stocks,
-    sight: Sight,
+    look: &Look,
+    starts: &Starts,
     n: u8,
 ) -> Result<Found, AllocError>
     requires next { AreNext table.now level.now stocks.now.list.items }
+    requires look { IsLook table.now look.now }
+    requires starts { AreStarts table.now (sight_of look.now.sight) level.now.stocks.list.items
+        (length level.now.stocks.list.items) starts.now.sets.items }
     requires stocks { SomeAll (length table.now.operations) n stocks.now }
     requires few { n ≤ MOST_PROCESSES }
     requires many { 2 ≤ n }
-    ensures all { IfOk result (λ found. AreAllSizes table.now (sight_of sight) n
+    ensures all { IfOk result (λ found. AreAllSizes table.now (sight_of look.now.sight) n
         found.divisions.items) }
-    ensures starts { IfOk result (λ found. AreStarts table.now sight stocks.now.list.items
-        (length stocks.now.list.items) found.starts.items) }
+    ensures starts { IfOk result (λ found. AreStarts table.now (sight_of look.now.sight)
+        stocks.now.list.items (length stocks.now.list.items) found.starts.sets.items) }
 {
     let _n = n;
     let mut divisions = Vec::new(alloc);
-    let mut starts = Vec::with_capacity(alloc, stocks.list.len())?;
+    let mut sets = Vec::with_capacity(alloc, stocks.list.len())?;
     let list = stocks.list.as_slice();
     for place in 0..list.len() {
         let setting = Setting {
@@ -116,10 +134,13 @@ fn divisions_of(
             level,
             stock: &list[place],
         };
-        let here = add_stock(&setting, sight, &mut divisions)?;
-        starts.push(here)?;
+        let here = add_stock(&setting, look, starts, &mut divisions)?;
+        sets.push(here)?;
     }
-    Ok(Found { divisions, starts })
+    Ok(Found {
+        divisions,
+        starts: Starts { sets },
+    })
 }
 
 /// How far a search has come: all stocks of one number of operations, over those of one less.
@@ -134,8 +155,6 @@ fn no_level(alloc: Global) -> Level
     ensures stocks { result.stocks.list.items ≡ [] }
     ensures ends { result.ends.items ≡ [] }
     ensures shown { result.shown.items ≡ [] }
-    ensures state { result.starts.state.items ≡ [] }
-    ensures nothing { result.starts.nothing.items ≡ [] }
 {
     Level {
         stocks: Stocks {
@@ -144,10 +163,6 @@ fn no_level(alloc: Global) -> Level
         },
         ends: Vec::new(alloc),
         shown: Vec::new(alloc),
-        starts: Starts {
-            state: Vec::new(alloc),
-            nothing: Vec::new(alloc),
-        },
     }
 }
 
@@ -164,10 +179,11 @@ fn all_states(alloc: Global, count: usize) -> Result<Vec<u16>, AllocError>
 }
 
 impl Search {
-    ghost use Rattle.std.specs.Prelude.{◌<◌, ◌≤◌, ◌+◌, ℕ, IfOk};
+    ghost use Rattle.std.specs.Prelude.{◌≡◌, ◌<◌, ◌≤◌, ◌+◌, IfOk};
     ghost use Rattle.cn_choice.specs.declared.limits.TheConstants.{MOST_PROCESSES};
     ghost use Rattle.cn_divisions.specs.Divisions.{AreDivisions};
     ghost use Rattle.cn_divisions.specs.Levels.{AreAllStarts};
+    ghost use Rattle.cn_divisions.specs.Looks.{AreLooks};
     ghost use Rattle.cn_divisions.specs.Searches.{IsSearch};
 
     /// The search at the stock of no operation.
@@ -179,12 +195,12 @@ impl Search {
         Ok(Search { below, stocks })
     }
 
-    /// The search at the stocks of one operation more; these have n, and these start states.
-    fn next(self, alloc: Global, table: &Table, n: u8, starts: Starts) -> Result<Search, AllocError>
+    /// The search at the stocks of one operation more; these have n.
+    fn next(self, alloc: Global, table: &Table, n: u8) -> Result<Search, AllocError>
         requires search { IsSearch table.now n self }
-        requires starts { AreAllStarts table.now self.stocks.list.items starts }
         requires short { n < MOST_PROCESSES }
-        ensures { IfOk result (IsSearch table.now (n + 1)) }
+        ensures search { IfOk result (IsSearch table.now (n + 1)) }
+        ensures below { IfOk result (λ search. search.below.stocks ≡ self.stocks) }
     {
         let list = self.stocks.list.as_slice();
         let ends = all_ends(alloc, table, &self.below, list)?;
@@ -193,68 +209,96 @@ impl Search {
             stocks: self.stocks,
             ends,
             shown,
-            starts,
         };
         let stocks = below.stocks.longer(alloc, table.operations(), n)?;
         Ok(Search { below, stocks })
     }
 
-    /// All states, for each of the stocks.
-    fn any_starts(&self, alloc: Global, table: &Table) -> Result<Starts, AllocError>
-        ensures { IfOk result (AreAllStarts table.now self.now.stocks.list.items) }
+    /// All states for each of the stocks, by each of the sights.
+    fn any_starts(
+        &self,
+        alloc: Global,
+        table: &Table,
+        sights: &[Sight],
+    ) -> Result<Vec<Starts>, AllocError>
+        ensures { IfOk result (λ starts. AreAllStarts table.now sights.now
+            self.now.stocks.list.items starts.items) }
     {
         let _states = table.states();
-        let state = all_states(alloc, self.stocks.list.len())?;
-        let nothing = all_states(alloc, self.stocks.list.len())?;
-        Ok(Starts { state, nothing })
+        let mut starts = Vec::with_capacity(alloc, sights.len())?;
+        for _place in 0..sights.len() {
+            let sets = all_states(alloc, self.stocks.list.len())?;
+            starts.push(Starts { sets })?;
+        }
+        Ok(starts)
     }
 
     /// The divisions of as many processes as the stocks have operations, and the states from which
     /// there are some.
-    fn here(&self, alloc: Global, table: &Table, n: u8) -> Result<(Divisions, Starts), AllocError>
+    fn here(
+        &self,
+        alloc: Global,
+        table: &Table,
+        sights: &[Sight],
+        looks: &[Look],
+        starts: &[Starts],
+        n: u8,
+    ) -> Result<(Divisions, Vec<Starts>), AllocError>
         requires search { IsSearch table.now n self.now }
+        requires looks { AreLooks table.now sights.now looks.now }
+        requires starts { AreAllStarts table.now sights.now self.now.below.stocks.list.items
+            starts.now }
         requires few { n ≤ MOST_PROCESSES }
         requires many { 2 ≤ n }
-        ensures divisions { IfOk result (λ here. AreDivisions table.now n here.0) }
-        ensures starts { IfOk result (λ here. AreAllStarts table.now self.now.stocks.list.items
-            here.1) }
+        ensures divisions { IfOk result (λ here. AreDivisions table.now sights.now n here.0) }
+        ensures starts { IfOk result (λ here. AreAllStarts table.now sights.now
+            self.now.stocks.list.items here.1.items) }
     {
         let (below, stocks) = (&self.below, &self.stocks);
-        let state = divisions_of(alloc, table, below, stocks, Sight::State, n)?;
-        let nothing = divisions_of(alloc, table, below, stocks, Sight::Nothing, n)?;
-        let divisions = Divisions {
-            state: state.divisions,
-            nothing: nothing.divisions,
-        };
-        let starts = Starts {
-            state: state.starts,
-            nothing: nothing.starts,
-        };
-        Ok((divisions, starts))
+        let mut by_sight = Vec::with_capacity(alloc, sights.len())?;
+        let mut next = Vec::with_capacity(alloc, sights.len())?;
+        for place in 0..sights.len() {
+            let look = &looks[place];
+            let found = divisions_of(alloc, table, below, stocks, look, &starts[place], n)?;
+            by_sight.push(SightDivisions {
+                sight: look.sight,
+                list: found.divisions,
+            })?;
+            next.push(found.starts)?;
+        }
+        Ok((Divisions { by_sight }, next))
     }
 }
 
 /// The finest divisions of 2 processes, of 3 and so on, up to the most, which is from 2 to
-/// [`MOST_PROCESSES`]: of all sizes that there are, one division each.
+/// [`MOST_PROCESSES`]: by each of the sights, which are sights of the type, of all sizes that there
+/// are, one division each.
 ///
 /// # Errors
 ///
 /// Where memory is short.
-pub fn find_divisions(alloc: Global, table: &Table, most: u8) -> Result<Vec<Divisions>, AllocError>
+pub fn find_divisions(
+    alloc: Global,
+    table: &Table,
+    sights: &[Sight],
+    most: u8,
+) -> Result<Vec<Divisions>, AllocError>
+    requires sights { AreSightsOf table.now sights.now }
     requires some { 2 ≤ most }
     requires few { most ≤ MOST_PROCESSES }
     // promise: finest-divisions (AreDivisions: AreAllSizes, IsDivision, HaveSizesOf)
-    ensures { IfOk result (λ all. EachAt (λ i d. AreDivisions table.now (i + 2) d) (most - 1)
-        all.items) }
+    ensures { IfOk result (λ all. EachAt (λ i d. AreDivisions table.now sights.now (i + 2) d)
+        (most - 1) all.items) }
 {
+    let looks = looks(alloc, table, sights)?;
     let mut search = Search::new(alloc, table)?;
-    let mut starts = search.any_starts(alloc, table)?;
-    search = search.next(alloc, table, 0, starts)?;
-    starts = search.any_starts(alloc, table)?;
+    search = search.next(alloc, table, 0)?;
+    let mut starts = search.any_starts(alloc, table, sights)?;
     let mut all = Vec::new(alloc);
     for n in 1..most {
-        search = search.next(alloc, table, n, starts)?;
-        let here = search.here(alloc, table, n + 1)?;
+        search = search.next(alloc, table, n)?;
+        let (looks, before) = (looks.as_slice(), starts.as_slice());
+        let here = search.here(alloc, table, sights, looks, before, n + 1)?;
         all.push(here.0)?;
         starts = here.1;
     }

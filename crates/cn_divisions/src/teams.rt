@@ -5,11 +5,12 @@ ghost use Rattle.cn_table.specs.TypeTable.{transition};
 ghost use Rattle.cn_divisions.specs.Counts.{AreTeams};
 ghost use Rattle.cn_divisions.specs.Divisions.{AreParted, IsFinestOf, meeting_of};
 ghost use Rattle.cn_divisions.specs.Levels.{IsSetting};
-ghost use Rattle.cn_divisions.specs.Sights.{sight_of};
+ghost use Rattle.cn_divisions.specs.Looks.{IsLook};
+ghost use Rattle.cn_meetings.specs.Sights.{sight_of};
 
 use crate::components::components;
 use crate::levels::Setting;
-use crate::sights::Sight;
+use crate::looks::Look;
 use crate::sizes::Numbers;
 use arrayvec::ArrayVec;
 use cn_table::{Operation, State, Table};
@@ -44,8 +45,9 @@ fn twin_teams(table: &Table, start: u8, operation: u8) -> Numbers
 }
 
 /// The teams of the processes by those of their operations.
-fn teams_by_operation(setting: &Setting<'_>, sight: Sight, start: u8) -> Numbers
+fn teams_by_operation(setting: &Setting<'_>, look: &Look, start: u8) -> Numbers
     requires setting { IsSetting setting.now }
+    requires look { IsLook setting.now.table.now look.now }
     requires start { start < length setting.now.table.now.states }
     requires few { length setting.now.stock.now.operations.items ≤ MOST_PROCESSES }
     requires many { (3 ≤ length setting.now.stock.now.operations.items)
@@ -55,11 +57,11 @@ fn teams_by_operation(setting: &Setting<'_>, sight: Sight, start: u8) -> Numbers
     ensures long { length result.items ≡ length setting.now.stock.now.operations.items }
     ensures teams { AreTeams result.items }
     ensures finest { IsFinestOf setting.now.table.now
-        (meeting_of start setting.now.stock.now.operations.items (sight_of sight))
+        (meeting_of start setting.now.stock.now.operations.items (sight_of look.now.sight))
         (length setting.now.stock.now.operations.items) (λ p. slice_index result.items p) }
 {
     let _operations = setting.table.operations();
-    let of_operations = components(setting, sight, start);
+    let of_operations = components(setting, look, start);
     let operations = setting.stock.operations.as_slice();
     let mut teams = ArrayVec::new();
     for process in 0..operations.len() {
@@ -69,22 +71,23 @@ fn teams_by_operation(setting: &Setting<'_>, sight: Sight, start: u8) -> Numbers
 }
 
 /// The teams of the processes: their finest division.
-pub(crate) fn process_teams(setting: &Setting<'_>, sight: Sight, start: u8) -> Numbers
+pub(crate) fn process_teams(setting: &Setting<'_>, look: &Look, start: u8) -> Numbers
     requires setting { IsSetting setting.now }
+    requires look { IsLook setting.now.table.now look.now }
     requires start { start < length setting.now.table.now.states }
     requires few { length setting.now.stock.now.operations.items ≤ MOST_PROCESSES }
     requires many { 2 ≤ length setting.now.stock.now.operations.items }
     ensures long { length result.items ≡ length setting.now.stock.now.operations.items }
     ensures teams { AreTeams result.items }
     ensures finest { IsFinestOf setting.now.table.now
-        (meeting_of start setting.now.stock.now.operations.items (sight_of sight))
+        (meeting_of start setting.now.stock.now.operations.items (sight_of look.now.sight))
         (length setting.now.stock.now.operations.items) (λ p. slice_index result.items p) }
 {
     let operations = setting.stock.operations.as_slice();
     if operations.len() == 2 && operations[0] == operations[1] {
         return twin_teams(setting.table, start, operations[0]);
     }
-    teams_by_operation(setting, sight, start)
+    teams_by_operation(setting, look, start)
 }
 
 /// Whether some processes are in different teams.

@@ -160,6 +160,13 @@ schedule_hint (schedule.NoSuchProcess place) (Some count) = Some (processes_text
 schedule_hint (schedule.NoSuchProcess place) None =
     Some (codes "SCHEDULE names processes from 0 on")
 
+-- for how many processes there is a plan; without reads, other protocols may do more than plan trees
+abbrev pub plan_hint : Bool → List ℕ
+plan_hint false = codes "classify tells for how many processes there is one"
+plan_hint true =
+    codes "protocols of other kinds may exist: "
+    ++ codes "classify --without-read tells for how many processes"
+
 abbrev pub replay_hint : ReplayFault → Option (List ℕ)
 replay_hint (replay.NoSuchProcess place) =
     Some (codes "the event at this place, from 0, is of no process")
@@ -188,8 +195,7 @@ hint_of (fault.UnreadCheck f) known = unread_check_hint f
 hint_of fault.NoWitness known = Some (codes "the number is null, so there is no protocol")
 hint_of fault.NoRecordingWitness known =
     Some (codes "classify --recoverable tells for how many processes there is one")
-hint_of fault.NoPlanTree known =
-    Some (codes "classify tells for how many processes there is one")
+hint_of fault.NoPlanTree known = Some (plan_hint known.without_read)
 hint_of (fault.Find f) known = find_hint f known.greatest_limit
 hint_of (fault.Schedule f) known = schedule_hint f known.processes
 hint_of (fault.Replay f) known = replay_hint f

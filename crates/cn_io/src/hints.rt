@@ -1,6 +1,6 @@
 //! What to do about a fault, for a person who reads it.
 ghost use Rattle.std.specs.Prelude.{◌≡◌, Some, option_map};
-ghost use Rattle.cn_io.specs.Hints.{argument_hint, certificate_hint, check_hint, find_hint, hint_of, hint_text, lint_hint, replay_hint, schedule_hint, size_hint, table_hint, unread_certificate_hint, unread_check_hint};
+ghost use Rattle.cn_io.specs.Hints.{argument_hint, certificate_hint, check_hint, find_hint, hint_of, hint_text, lint_hint, plan_hint, replay_hint, schedule_hint, size_hint, table_hint, unread_certificate_hint, unread_check_hint};
 
 use crate::fault::{AppFault, Argument, Source};
 use crate::known::Known;
@@ -218,6 +218,17 @@ fn schedule_hint(fault: ScheduleFault, processes: Option<u8>) -> Option<Hint<'st
     }
 }
 
+// For how many processes there is a plan. Without reads, other protocols may do more than plan trees.
+fn plan_hint(without_read: bool) -> &'static str
+    ensures { result.now ≡ plan_hint without_read }
+{
+    if without_read {
+        "protocols of other kinds may exist: classify --without-read tells for how many processes"
+    } else {
+        "classify tells for how many processes there is one"
+    }
+}
+
 fn replay_hint(fault: ReplayFault) -> Option<Hint<'static>>
     ensures { option_map hint_text result ≡ replay_hint fault }
 {
@@ -255,9 +266,7 @@ impl AppFault {
             AppFault::NoRecordingWitness => Some(Hint::Says(
                 "classify --recoverable tells for how many processes there is one",
             )),
-            AppFault::NoPlanTree => Some(Hint::Says(
-                "classify tells for how many processes there is one",
-            )),
+            AppFault::NoPlanTree => Some(Hint::Says(plan_hint(known.without_read))),
             AppFault::Find(fault) => find_hint(*fault, known.greatest_limit),
             AppFault::Schedule(fault) => schedule_hint(*fault, known.processes),
             AppFault::Replay(fault) => replay_hint(*fault),

@@ -22,6 +22,8 @@ pub struct Known<'a> {
     pub greatest_limit: Option<u8>,
     /// How many processes the protocol of the certificate has.
     pub processes: Option<u8>,
+    /// Whether a plan was asked for of which no process reads.
+    pub without_read: bool,
 }
 
 // Where and why the bytes are no TOML, in the words of the crate that reads it. `None` says nothing.
@@ -73,6 +75,7 @@ impl<'a> Known<'a> {
           reason = None;
           greatest_limit = None;
           processes = None;
+          without_read = false;
         } }
     {
         Known {
@@ -82,6 +85,7 @@ impl<'a> Known<'a> {
             reason: None,
             greatest_limit: None,
             processes: None,
+            without_read: false,
         }
     }
 
@@ -100,7 +104,8 @@ impl<'a> Known<'a> {
     /// greatest limit. Where memory is short, nothing is noted.
     pub fn note_table(&mut self, alloc: Global, fault: AppFault, bytes: &[u8])
         ensures files { (self.new.table ≡ self.old.table) × (self.new.object ≡ self.old.object)
-            × (self.new.is_linted ≡ self.old.is_linted) }
+            × (self.new.is_linted ≡ self.old.is_linted)
+            × (self.new.without_read ≡ self.old.without_read) }
         // promise: hints (IsGreatestLimitOf)
         ensures limit { (self.new.greatest_limit ≡ self.old.greatest_limit)
             ⊎ IfSome self.new.greatest_limit (IsGreatestLimitOf bytes.now) }
@@ -122,7 +127,8 @@ impl<'a> Known<'a> {
     /// noted.
     pub fn note_certificate(&mut self, alloc: Global, fault: AppFault, bytes: &[u8])
         ensures files { (self.new.table ≡ self.old.table) × (self.new.object ≡ self.old.object)
-            × (self.new.is_linted ≡ self.old.is_linted) }
+            × (self.new.is_linted ≡ self.old.is_linted)
+            × (self.new.without_read ≡ self.old.without_read) }
         ensures limit { self.new.greatest_limit ≡ self.old.greatest_limit }
         ensures reason { self.new.reason ≡ self.old.reason }
         // promise: hints (IsNumberOf)

@@ -8,6 +8,7 @@ use Rattle.cn_interference.specs.declared.rules.Rule.{Rule}
 use Rattle.cn_reasons.specs.declared.explanation.Explanation.{Explanation}
 use Rattle.cn_reasons.specs.declared.refutation.Refutation.{Refutation}
 use Rattle.cn_reasons.specs.declared.way.Way.{Way}
+use Rattle.cn_sentences.specs.declared.shortest.ShortestCost.{ShortestCost}
 use Rattle.cn_json.specs.Collisions.{collision_data}
 use Rattle.cn_json.specs.Lasting.{lasting_data}
 use Rattle.cn_json.specs.Names.{operation_data}
@@ -32,9 +33,16 @@ abbrev pub ways_left : Option (Refutation Way) → ℕ
 ways_left None = 0
 ways_left (Some r) = r.more
 
--- all that an explanation tells
-unfoldable pub explanation_data : Explanation → Data
-explanation_data e =
+-- what the shortest plan costs
+abbrev pub shortest_data : ShortestCost → Data
+shortest_data c =
+    object (member (codes "objects") (number_data c.objects)
+    (member (codes "processes") (number_data c.processes)
+    (member (codes "steps") (number_data c.steps) no_members)))
+
+-- all that an explanation tells, and how short protocols get
+unfoldable pub explanation_data : Explanation → Option ShortestCost → Data
+explanation_data e shortest =
     object (member (codes "apart") (list_data (apart_data e.table) e.apart.items)
     (member (codes "collisions")
     (list_data (collision_data e.table) (ways_told e.refutation))
@@ -44,6 +52,7 @@ explanation_data e =
     (member (codes "name") (text_data e.table.name)
     (member (codes "number") (type_number_data e.number)
     (member (codes "rule") (option_data rule_data e.rule)
+    (member (codes "shortest") (option_data shortest_data shortest)
     (member (codes "version") (number_data e.version)
     (member (codes "witness") (option_data (witness_data e.table) e.witness)
-    no_members))))))))))
+    no_members)))))))))))

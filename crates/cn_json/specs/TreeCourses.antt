@@ -6,7 +6,7 @@ use Rattle.cn_table.specs.declared.elements.Operation.{Operation}
 use Rattle.cn_table.specs.declared.elements.Response.{Response}
 use Rattle.cn_tree_rounds.specs.Courses.{Course}
 use Rattle.cn_tree_rounds.specs.declared.action.Action.{Action}
-use Rattle.cn_tree_rounds.specs.declared.action.Action.TheVariants.{Write, Apply, Read, Take, Decide}
+use Rattle.cn_tree_rounds.specs.declared.action.Action.TheVariants.{Write, Apply, Read, Look, Take, Decide}
 use Rattle.cn_tree_rounds.specs.declared.action.StepRecord.{StepRecord}
 use Rattle.cn_json.specs.Course.{decision_data, idle_data}
 use Rattle.cn_json.specs.Names.{operation_data, response_data, state_data}
@@ -21,7 +21,7 @@ team_register_data action node process team value =
     (member (codes "team") (number_data team)
     (member (codes "value") (number_data value) no_members)))))
 
--- a process applies its operation, and gets a response; where it does not read, it judges by it
+-- a process applies its operation, and gets a response; where it does not look, it judges by it
 abbrev pub apply_data : TypeTable → ℕ → ℕ → Operation → Response → Option ℕ → Data
 apply_data t process node operation response None =
     object (member (codes "action") (text_data (codes "apply"))
@@ -37,8 +37,18 @@ apply_data t process node operation response (Some judged) =
     (member (codes "process") (number_data process)
     (member (codes "response") (response_data t response) no_members))))))
 
--- an action of a process: it uses a register, applies its operation, reads a state and judges that a
--- team came first, or decides
+-- a process looks by an operation that changes nothing, and judges by the response
+abbrev pub look_data : TypeTable → ℕ → ℕ → Operation → Response → ℕ → Data
+look_data t process node operation response judged =
+    object (member (codes "action") (text_data (codes "look"))
+    (member (codes "judged") (number_data judged)
+    (member (codes "node") (number_data node)
+    (member (codes "operation") (operation_data t operation)
+    (member (codes "process") (number_data process)
+    (member (codes "response") (response_data t response) no_members))))))
+
+-- an action of a process: it uses a register, applies its operation, reads a state or looks by an
+-- operation and judges that a team came first, or decides
 abbrev pub tree_action_data : TypeTable → ℕ → Action → Data
 tree_action_data t process (Write node team value) =
     team_register_data (codes "write") node process team value
@@ -50,6 +60,8 @@ tree_action_data t process (Read node state judged) =
     (member (codes "node") (number_data node)
     (member (codes "process") (number_data process)
     (member (codes "state") (state_data t state) no_members)))))
+tree_action_data t process (Look node operation response judged) =
+    look_data t process node operation response judged
 tree_action_data t process (Take node team value) =
     team_register_data (codes "take") node process team value
 tree_action_data t process (Decide value) =

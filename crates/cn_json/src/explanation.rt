@@ -4,7 +4,7 @@ ghost use Rattle.serde_json.specs.Written.{compact_text};
 ghost use Rattle.cn_reasons.specs.Explanation.{IsExplanation};
 ghost use Rattle.cn_reasons.specs.Known.{IsKnownPair, IsKnownRefutation, IsKnownWay};
 ghost use Rattle.cn_json.specs.Collisions.{collision_data};
-ghost use Rattle.cn_json.specs.Explanation.{apart_data, explanation_data, rule_data, ways_left, ways_told};
+ghost use Rattle.cn_json.specs.Explanation.{apart_data, explanation_data, rule_data, shortest_data, ways_left, ways_told};
 ghost use Rattle.cn_json.specs.Tokens.{Appends, member_tokens, value_tokens};
 ghost use Rattle.cn_json.specs.Values.{list_data, option_data, primitive_data};
 
@@ -14,6 +14,7 @@ use crate::numbers::write_type_number;
 use crate::value::JsonValue;
 use cn_interference::{OperationPair, Rule};
 use cn_reasons::{Explanation, Refutation, Way};
+use cn_sentences::ShortestCost;
 use cn_table::Table;
 use std::alloc::{AllocError, Global};
 
@@ -24,6 +25,20 @@ impl JsonValue for OperationPair {
 
     fn write(&self, out: &mut JsonText, table: &Table) -> Result<(), AllocError> {
         out.array(table, &[self.first, self.second])
+    }
+}
+
+impl JsonValue for ShortestCost {
+    ghost IsKnown = { λ t cost. Unit {0} };
+
+    ghost json = { λ t cost. shortest_data cost };
+
+    fn write(&self, out: &mut JsonText, table: &Table) -> Result<(), AllocError> {
+        out.object(&[
+            ("objects", Number(u64::from(self.objects))),
+            ("processes", Byte(self.processes)),
+            ("steps", Byte(self.steps)),
+        ])
     }
 }
 
@@ -63,9 +78,14 @@ fn ways_left(refutation: &Option<Refutation<Way>>) -> usize
     }
 }
 
-fn write_explanation(out: &mut JsonText, explanation: &Explanation) -> Result<(), AllocError>
+fn write_explanation(
+    out: &mut JsonText,
+    explanation: &Explanation,
+    shortest: Option<ShortestCost>,
+) -> Result<(), AllocError>
     requires { IsExplanation explanation.now }
-    ensures { Appends result out.old out.new (value_tokens (explanation_data explanation.now)) }
+    ensures { Appends result out.old out.new
+        (value_tokens (explanation_data explanation.now shortest)) }
 {
     let table = &explanation.table;
     out.begin_object()?;
@@ -80,6 +100,7 @@ fn write_explanation(out: &mut JsonText, explanation: &Explanation) -> Result<()
     out.key("number")?;
     write_type_number(out, explanation.number)?;
     out.member("rule", rule_value(explanation.rule))?;
+    out.option_at("shortest", table, &shortest)?;
     out.member("version", Byte(explanation.version))?;
     out.option_at("witness", table, &explanation.witness)?;
     out.end_object()
@@ -100,21 +121,28 @@ fn write_explanation(out: &mut JsonText, explanation: &Explanation) -> Result<()
 /// - `name`: the name of the type;
 /// - `number`: the number, written as in a [`Classification`](crate::Classification);
 /// - `rule`: `null`, or the word of the rule by which the operations alone bound the number;
+/// - `shortest`: `null`, or what the shortest plan costs that is given: its `objects`, for how many
+///   `processes` it is, and the greatest number of own `steps` of a process;
 /// - `witness`: `null`, or its `start` state and its `processes`, with the pairs that each can get
 ///   where a process of team A is first, `a_first`, and where one of team B is, `b_first`.
 ///
 /// # Errors
 ///
 /// `AllocError` if memory runs out.
-pub fn explanation_json(alloc: Global, explanation: &Explanation) -> Result<String, AllocError>
+pub fn explanation_json(
+    alloc: Global,
+    explanation: &Explanation,
+    shortest: Option<ShortestCost>,
+) -> Result<String, AllocError>
     requires { IsExplanation explanation.now }
     // promise: answers-as-json (explanation_data: rule_data, apart_data, lasting_data,
     //     witness_data, collision_data, ways_left)
     // promise: why-without-a-limit
+    // promise: shortest-cost-by-why (explanation_data: shortest_data)
     ensures { IfOk result (λ text. string_bytes text
-        ≡ compact_text (explanation_data explanation.now)) }
+        ≡ compact_text (explanation_data explanation.now shortest)) }
 {
     let mut out = JsonText::new(alloc);
-    write_explanation(&mut out, explanation)?;
+    write_explanation(&mut out, explanation, shortest)?;
     Ok(out.finish())
 }

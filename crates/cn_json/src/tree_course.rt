@@ -3,7 +3,7 @@ ghost use Rattle.std.specs.Prelude.{◌≡◌, ◌<◌, IfOk, IfSome, length, st
 ghost use Rattle.serde_json.specs.Written.{compact_text};
 ghost use Rattle.cn_tree_rounds.specs.Actions.{AreOfTable, IsOfTable};
 ghost use Rattle.cn_json.specs.Tokens.{Appends, value_tokens};
-ghost use Rattle.cn_json.specs.TreeCourses.{apply_data, team_register_data, tree_action_data, tree_course_data, tree_step_data};
+ghost use Rattle.cn_json.specs.TreeCourses.{apply_data, look_data, team_register_data, tree_action_data, tree_course_data, tree_step_data};
 
 use crate::course::{begin_with_decisions, write_idle};
 use crate::json_text::JsonText;
@@ -34,7 +34,7 @@ fn write_team_register(
     ])
 }
 
-/// Writes that a process applies its operation; where it does not read, it judges by the response.
+/// Writes that a process applies its operation; where it does not look, it judges by the response.
 fn write_apply(
     out: &mut JsonText,
     table: &Table,
@@ -72,6 +72,35 @@ fn write_apply(
     }
 }
 
+/// Writes that a process looks by an operation that changes nothing, and judges by the response.
+fn write_look(
+    out: &mut JsonText,
+    table: &Table,
+    process: u8,
+    node: u8,
+    operation: Operation,
+    response: Response,
+    judged: u8,
+) -> Result<(), AllocError>
+    requires operation { operation.0 < length table.now.operations }
+    requires response { response.0 < length table.now.responses }
+    ensures { Appends result out.old out.new
+        (value_tokens (look_data table.now process node operation response judged)) }
+{
+    let (done, given) = (
+        table.operation_name(operation),
+        table.response_name(response),
+    );
+    out.object(&[
+        ("action", Text("look")),
+        ("judged", Byte(judged)),
+        ("node", Byte(node)),
+        ("operation", Text(done)),
+        ("process", Byte(process)),
+        ("response", Text(given)),
+    ])
+}
+
 fn write_tree_action(
     out: &mut JsonText,
     table: &Table,
@@ -99,6 +128,12 @@ fn write_tree_action(
             ("process", Byte(process)),
             ("state", Text(table.state_name(state))),
         ]),
+        Action::Look {
+            node,
+            operation,
+            response,
+            team,
+        } => write_look(out, table, process, node, operation, response, team),
         Action::Take { node, team, value } => {
             write_team_register(out, "take", node, process, team, value)
         }
@@ -141,9 +176,11 @@ fn write_tree_course(out: &mut JsonText, table: &Table, course: &Course) -> Resu
 /// - `write` and `take`: the process writes its `value` to the register of its `team` at a `node`,
 ///   or takes it from there;
 /// - `apply`: it applies its `operation` to the object of a `node`, and gets this `response`; where
-///   it does not read, it judges by it that the team `judged` came first there;
+///   it does not look, it judges by it that the team `judged` came first there;
 /// - `read`: it reads the `state` of the object of a `node`, and judges that the team `judged` came
 ///   first there;
+/// - `look`: it applies an `operation` that changes nothing to the object of a `node`, gets this
+///   `response`, and judges that the team `judged` came first there;
 /// - `decide`: it decides the `value`;
 /// - `none`: it has decided before, and does nothing.
 ///

@@ -2,19 +2,22 @@
 ghost use Rattle.std.specs.Prelude.{◌≡◌, ◌<◌, ◌+◌, All, IfOk, codes, length, map, string_bytes};
 ghost use Rattle.std.specs.List.{range_with_len};
 ghost use Rattle.serde_json.specs.Written.{compact_text};
+ghost use Rattle.cn_meetings.specs.Sights.{sight_of};
 ghost use Rattle.cn_meetings.specs.Witness.{Has};
 ghost use Rattle.cn_trees.specs.Tree.{comes_to, nodes_of, processes_of};
 ghost use Rattle.cn_tree_plans.specs.Paths.{place_of};
 ghost use Rattle.cn_tree_plans.specs.Plan.{judged_at, tree_of};
-ghost use Rattle.cn_tree_text.specs.Places.{first_at, reads_at, size_at, start_at, team_count};
-ghost use Rattle.cn_json.specs.Tokens.{each_value, Appends, list_rest, member_tokens, value_tokens};
-ghost use Rattle.cn_json.specs.TreePlans.{judged_data, member_data, node_data, team_size_at, tree_path_data, tree_place_data, tree_plan_data};
+ghost use Rattle.cn_tree_plans.specs.Sights.{seen_count};
+ghost use Rattle.cn_tree_text.specs.Places.{first_at, sight_at, size_at, start_at, team_count};
+ghost use Rattle.cn_json.specs.Tokens.{each_value, Appends, list_rest, member_tokens, members_rest, value_tokens};
+ghost use Rattle.cn_json.specs.TreePlans.{judged_data, look_members, member_data, node_data, node_members, team_size_at, tree_path_data, tree_place_data, tree_plan_data};
 ghost use Rattle.cn_json.specs.Values.{list_data, number_data};
 
 use crate::json_text::JsonText;
 use crate::json_text::Primitive::{Boolean, Byte, Text};
 use crate::value::JsonValue;
-use cn_table::Table;
+use cn_meetings::Sight;
+use cn_table::{Response, State, Table};
 use cn_tree_costs::laws::nodes_are_trees;
 use cn_tree_plans::laws::judgements_are_of_the_type;
 use cn_tree_plans::{Judged, Place, TreePlan};
@@ -30,26 +33,30 @@ impl JsonValue for Place {
     }
 }
 
-/// A response, the state, if it is read, and the team that they show.
+/// A response, what a process sees behind it, and the team that they show.
 fn write_judged(
     out: &mut JsonText,
     table: &Table,
-    reads: bool,
+    sight: Sight,
     judged: Judged,
 ) -> Result<(), AllocError>
     requires response { judged.response.0 < length table.now.responses }
-    requires state { judged.state.0 < length table.now.states }
-    ensures { Appends result out.old out.new (value_tokens (judged_data table.now reads judged)) }
+    requires saw { judged.saw < seen_count table.now (sight_of sight) }
+    ensures { Appends result out.old out.new (value_tokens (judged_data table.now sight judged)) }
 {
     let response = table.response_name(judged.response);
-    if reads {
-        out.object(&[
+    match sight {
+        Sight::State => out.object(&[
             ("response", Text(response)),
-            ("state", Text(table.state_name(judged.state))),
+            ("state", Text(table.state_name(State(judged.saw)))),
             ("team", Byte(judged.team)),
-        ])
-    } else {
-        out.object(&[("response", Text(response)), ("team", Byte(judged.team))])
+        ]),
+        Sight::Nothing => out.object(&[("response", Text(response)), ("team", Byte(judged.team))]),
+        Sight::Response(_) => out.object(&[
+            ("look", Text(table.response_name(Response(judged.saw)))),
+            ("response", Text(response)),
+            ("team", Byte(judged.team)),
+        ]),
     }
 }
 
@@ -57,26 +64,18 @@ fn write_judged(
 fn write_each_judged(
     out: &mut JsonText,
     table: &Table,
-    reads: bool,
+    sight: Sight,
     judged: &[Judged],
 ) -> Result<(), AllocError>
     requires { All
-        (λ j. (j.response.0 < length table.now.responses) × (j.state.0 < length table.now.states))
-        judged.now }
-    ensures { Appends result out.old out.new (list_rest (judged_data table.now reads) judged.now) }
+        (λ j. (j.response.0 < length table.now.responses)
+        × (j.saw < seen_count table.now (sight_of sight))) judged.now }
+    ensures { Appends result out.old out.new (list_rest (judged_data table.now sight) judged.now) }
 {
     for entry in judged {
-        write_judged(out, table, reads, *entry)?;
+        write_judged(out, table, sight, *entry)?;
     }
     out.end_array()
-}
-
-/// Whether the processes of a node read the state.
-fn reads_at(plan: &TreePlan, node: u8) -> bool
-    requires { node < nodes_of (tree_of plan.now) }
-    ensures { result ≡ reads_at plan.now node }
-{
-    plan.meeting(node).reads
 }
 
 /// The name of the state in which the object of a node starts.
@@ -98,14 +97,14 @@ fn write_judges(
     requires process { Has (comes_to plan.now.teams node) process }
     ensures { Appends result out.old out.new
         (member_tokens (codes "judges")
-        (list_data (judged_data plan.now.table (reads_at plan.now node))
+        (list_data (judged_data plan.now.table (sight_at plan.now node))
         (judged_at plan.now node process))) }
 {
     judgements_are_of_the_type(plan);
-    let reads = reads_at(plan, node);
+    let sight = plan.sight(node);
     let judged = plan.judged(node, process);
     out.begin_array_at("judges")?;
-    write_each_judged(out, plan.table(), reads, judged)
+    write_each_judged(out, plan.table(), sight, judged)
 }
 
 /// A process of a node.
@@ -202,20 +201,45 @@ fn write_teams(out: &mut JsonText, plan: &TreePlan, node: u8) -> Result<(), Allo
     out.end_array()
 }
 
-fn write_node(out: &mut JsonText, plan: &TreePlan, node: u8) -> Result<(), AllocError>
+/// The members of a node from its number on, and the end of its object.
+fn write_last_of_node(out: &mut JsonText, plan: &TreePlan, node: u8) -> Result<(), AllocError>
     requires { node < nodes_of (tree_of plan.now) }
-    ensures { Appends result out.old out.new (value_tokens (node_data plan.now node)) }
+    ensures { Appends result out.old out.new (members_rest (node_members plan.now node)) }
 {
-    let (first, reads) = (plan.first(node), reads_at(plan, node));
+    let reads = plan.sight(node).reads();
     let start = start_name(plan, node);
-    out.begin_object()?;
-    out.member("first", Byte(first))?;
     out.member("node", Byte(node))?;
     write_members(out, plan, node)?;
     out.member("reads", Boolean(reads))?;
     out.member("start", Text(start))?;
     write_teams(out, plan, node)?;
     out.end_object()
+}
+
+/// The operation by which the processes of a node look, if they do so, and the members behind it.
+fn write_look(out: &mut JsonText, plan: &TreePlan, node: u8) -> Result<(), AllocError>
+    requires { node < nodes_of (tree_of plan.now) }
+    ensures { Appends result out.old out.new (members_rest
+        (look_members plan.now.table (sight_at plan.now node) (node_members plan.now node))) }
+{
+    match plan.sight(node) {
+        Sight::State => write_last_of_node(out, plan, node),
+        Sight::Nothing => write_last_of_node(out, plan, node),
+        Sight::Response(operation) => {
+            out.member("look", Text(plan.table().operation_name(operation)))?;
+            write_last_of_node(out, plan, node)
+        }
+    }
+}
+
+fn write_node(out: &mut JsonText, plan: &TreePlan, node: u8) -> Result<(), AllocError>
+    requires { node < nodes_of (tree_of plan.now) }
+    ensures { Appends result out.old out.new (value_tokens (node_data plan.now node)) }
+{
+    let first = plan.first(node);
+    out.begin_object()?;
+    out.member("first", Byte(first))?;
+    write_look(out, plan, node)
 }
 
 #[tactic(auto, using(crate::proofs::Arrays::each_more))]
@@ -295,10 +319,12 @@ fn write_tree_plan(out: &mut JsonText, plan: &TreePlan) -> Result<(), AllocError
 /// `{"nodes":[..],"objects":..,"paths":[..],"processes":..,"steps":..,"sum":..,"type":..}`.
 /// `objects` and `processes` are their numbers, `steps` is the greatest number of own steps and `sum`
 /// that of all processes together, and `type` is the name of the type. In `nodes` each node has its
-/// `first` process, its number (`node`), its `processes`, whether they read the state (`reads`), its
-/// `start` state, and the number of processes of each team (`teams`). Each of these processes has
-/// what it `judges`, which is a `response`, the `state` where they read it, and the `team` that came
-/// first; its `operation`; its number (`process`); and its `team`. In `paths` each process has its
+/// `first` process, the operation by which its processes `look` where they do so, its number (`node`),
+/// its `processes`, whether they read the state (`reads`), its `start` state, and the number of
+/// processes of each team (`teams`). Each of these processes has what it `judges`, which is a
+/// `response`, the `state` where they read it or the response of the operation by which they `look`,
+/// and the `team` that came first; its `operation`; its number (`process`); and its `team`. In
+/// `paths` each process has its
 /// `places` from its lowest node to the root, each with its `node` and its `team` there; its number
 /// (`process`); and the number of its own `steps`.
 ///

@@ -14,6 +14,8 @@ use Rattle.cn_reasons.specs.declared.refutation.Refutation.{Refutation}
 use Rattle.cn_reasons.specs.declared.way.Way.{Way}
 use Rattle.cn_sentences.specs.Lines.{limit_line}
 use Rattle.cn_sentences.specs.Numbers.{number_words}
+use Rattle.cn_sentences.specs.Shortest.{shortest_line}
+use Rattle.cn_sentences.specs.declared.shortest.ShortestCost.{ShortestCost}
 use Rattle.cn_markdown.specs.Lasting.{lasting_table}
 use Rattle.cn_markdown.specs.Numbers.{numbers_head, numbers_row}
 use Rattle.cn_markdown.specs.TypeTable.{type_markdown}
@@ -90,11 +92,19 @@ abbrev pub reason : Explanation → Option LastingWitness → List ℕ
 reason e None = bound e e.rule
 reason e (Some l) = lasting_table e.table l
 
+-- ---- how short protocols get
+
+-- what the shortest plan costs, if it is told, behind an empty line
+abbrev pub shortest_part : Option ShortestCost → List ℕ
+shortest_part None = []
+shortest_part (Some cost) = codes "\n" ++ (shortest_line cost ++ [])
+
 -- ---- all of it
 
--- a table with the number, the table of the type, the witness, and the reason why the number is no
--- more
-unfoldable pub explanation_markdown : Explanation → List ℕ
-explanation_markdown e =
+-- a table with the number, the table of the type, the witness, the reason why the number is no more,
+-- and how short protocols get
+unfoldable pub explanation_markdown : Explanation → Option ShortestCost → List ℕ
+explanation_markdown e shortest =
     start (numbers_head false false) e.table (number_words [] e.number)
-    ++ (witness_markdown e.table e.witness ++ (codes "\n" ++ (reason e e.lasting ++ [])))
+    ++ (witness_markdown e.table e.witness ++ (codes "\n" ++ (reason e e.lasting
+    ++ (shortest_part shortest ++ []))))

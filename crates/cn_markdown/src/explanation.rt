@@ -3,7 +3,7 @@ ghost use Rattle.std.specs.Prelude.{◌≡◌, ◌++◌, [], IfOk, IfSome, OnOk,
 ghost use Rattle.cn_reasons.specs.Explanation.{IsExplanation};
 ghost use Rattle.cn_reasons.specs.Known.{IsKnownLasting};
 ghost use Rattle.cn_sentences.specs.Numbers.{number_words};
-ghost use Rattle.cn_markdown.specs.Explanation.{bound, choices_line, choices_words, explanation_markdown, no_list_line, no_more, not_refuted, reason, refuted, rule_line, rule_start, start};
+ghost use Rattle.cn_markdown.specs.Explanation.{bound, choices_line, choices_words, explanation_markdown, no_list_line, no_more, not_refuted, reason, refuted, rule_line, rule_start, shortest_part, start};
 ghost use Rattle.cn_markdown.specs.Numbers.{numbers_head};
 
 use crate::lasting::push_lasting_table;
@@ -14,7 +14,7 @@ use cn_interference::Rule;
 use cn_pieces::push_pieces;
 use cn_reasons::{Explanation, Refutation, TypeNumber, Way};
 use cn_search::ConsensusNumber;
-use cn_sentences::{number_words, push_limit_line};
+use cn_sentences::{ShortestCost, number_words, push_limit_line, push_shortest};
 use cn_table::Table;
 use std::alloc::{AllocError, Global};
 
@@ -202,6 +202,18 @@ fn push_reason(text: &mut String, explanation: &Explanation) -> Result<(), Alloc
     }
 }
 
+/// What the shortest plan costs, if it is told.
+fn push_shortest_part(text: &mut String, shortest: Option<ShortestCost>) -> Result<(), AllocError>
+    ensures { OnOk result (string_bytes text.new
+        ≡ string_bytes text.old ++ shortest_part shortest) }
+{
+    let Some(cost) = shortest else {
+        return Ok(());
+    };
+    text.push_str("\n")?;
+    push_shortest(text, cost)
+}
+
 /// Why the number of a type is what it is, in Markdown: a table with the type and its number, the
 /// table of the type, the witness with what its processes can see, and why the number is no more.
 /// That is one of these:
@@ -210,22 +222,30 @@ fn push_reason(text: &mut String, explanation: &Explanation) -> Result<(), Alloc
 /// - the rule by which the operations alone bound the number;
 /// - the number of choices for one process more, in each of which a process cannot tell.
 ///
-/// Each group of processes of the witness has one row. Each line ends with a line feed.
+/// Each group of processes of the witness has one row. What the shortest plan costs comes last, if it
+/// is given. Each line ends with a line feed.
 ///
 /// # Errors
 ///
 /// `AllocError` if memory runs out.
 #[tactic(auto, unfolding(crate::specs::Explanation::explanation_markdown))]
-pub fn explanation_markdown(alloc: Global, explanation: &Explanation) -> Result<String, AllocError>
+pub fn explanation_markdown(
+    alloc: Global,
+    explanation: &Explanation,
+    shortest: Option<ShortestCost>,
+) -> Result<String, AllocError>
     requires { IsExplanation explanation.now }
     // promise: texts-of-numbers (explanation_markdown)
     // promise: why-without-a-limit
-    ensures { IfOk result (λ text. string_bytes text ≡ explanation_markdown explanation.now) }
+    // promise: shortest-cost-by-why (explanation_markdown: shortest_part)
+    ensures { IfOk result (λ text. string_bytes text
+        ≡ explanation_markdown explanation.now shortest) }
 {
     let mut text = String::new(alloc);
     push_number(alloc, &mut text, explanation)?;
     push_witness(&mut text, &explanation.table, &explanation.witness)?;
     text.push_str("\n")?;
     push_reason(&mut text, explanation)?;
+    push_shortest_part(&mut text, shortest)?;
     Ok(text)
 }

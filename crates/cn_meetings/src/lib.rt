@@ -5,3 +5,6 @@
 #![tactic(auto)]
 
 pub mod laws;
+mod sight;
+
+pub use sight::Sight;

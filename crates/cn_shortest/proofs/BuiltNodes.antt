@@ -1,10 +1,10 @@
 -- Teams and the meetings of their nodes, at the load of a search.
-use Rattle.std.proofs.Common.{ℕ, ◌≡◌, ◌+◌, ◌-◌, ◌*◌, ◌<◌, ◌≤◌, true, false, true≢false, List, [], ◌∷◌, ◌++◌, length, append_assoc, refl, sym, ap, ◌∙◌, subst, arith, Option, Some, None, IsSome}
+use Rattle.std.proofs.Common.{ℕ, ◌≡◌, ◌+◌, ◌-◌, ◌*◌, ◌<◌, ◌≤◌, Bool, true, false, true≢false, List, [], ◌∷◌, ◌++◌, length, append_assoc, refl, sym, ap, ◌∙◌, subst, arith, Option, Some, None, IsSome}
 use Rattle.std.specs.Prelude.{All, sum}
 use Rattle.std.proofs.lemmas.List.{append-nil}
 use Rattle.std.proofs.lemmas.List.Elements.{All-head, All-tail, All-weaker}
 use Rattle.cn_table.specs.TypeTable.{TypeTable}
-use Rattle.cn_meetings.specs.Meeting.{Sight}
+use Rattle.cn_meetings.specs.Meeting.{IsSightOf, Sight}
 use Rattle.cn_tree_costs.specs.Least.{Load, LoadTable, load_of_teams, plus}
 use Rattle.cn_tree_costs.specs.Sizes.{price}
 use Rattle.cn_tree_costs.specs.Sizes as teams
@@ -17,7 +17,7 @@ use Rattle.cn_shortest.specs.Examples.{IsExample}
 use Rattle.cn_shortest.specs.Loads.{table_of}
 use Rattle.cn_shortest.specs.Nodes.{AreNodes, IsNode, price_in, sight_in}
 use Rattle.cn_shortest.specs.Searches.{IsRootOf}
-use Rattle.cn_shortest.specs.Sights.{sight_of}
+use Rattle.cn_meetings.specs.Sights.{sight_of}
 use Rattle.cn_shortest.specs.Sizes.{AreOf, sizes_of}
 use Rattle.cn_shortest.specs.declared.choosing.Choice.{Choice}
 use Rattle.cn_shortest.specs.declared.roots.Roots.{Roots}
@@ -48,7 +48,7 @@ module _ (roots : List Roots) (best : LoadTable) (b : ℕ) where
     record {
       sizes_are = refl;
       nodes_are = ap nodes_or e;
-      are = λ t h. (refl, sym (ap sum_or e));
+      are = λ t allowed h. (refl, sym (ap sum_or e));
     },
   )
 
@@ -66,7 +66,7 @@ module _ (roots : List Roots) (best : LoadTable) (b : ℕ) where
         record {
           sizes_are = ap (λ l. 1 ∷ l) rest.2.sizes_are;
           nodes_are = rest.2.nodes_are ∙ nodes;
-          are = λ t h. subst (AreNodes t b r rest.0) steps (rest.2.are t h);
+          are = λ t allowed h. subst (AreNodes t allowed b r rest.0) steps (rest.2.are t allowed h);
         },
       )
 
@@ -82,9 +82,9 @@ module _ (roots : List Roots) (best : LoadTable) (b : ℕ) where
         record {
           sizes_are = ap (λ k. k ∷ teams.sizes_of r) one.2.count ∙ ap (λ l. n ∷ l) rest.2.sizes_are;
           nodes_are = omega (arith, one.2.nodes_are, rest.2.nodes_are, p.nodes_are);
-          are = λ t h.
-              let a = one.2.are t h in
-              (a.root, a.below, rest.0, a.steps_below, p.y.sum, ap (λ l. l ++ rest.0) a.split, omega (arith, p.sum_is, a.sum_is), a.node, a.within, a.are_below, rest.2.are t h);
+          are = λ t allowed h.
+              let a = one.2.are t allowed h in
+              (a.root, a.below, rest.0, a.steps_below, p.y.sum, ap (λ l. l ++ rest.0) a.split, omega (arith, p.sum_is, a.sum_is), a.node, a.within, a.are_below, rest.2.are t allowed h);
         },
       )
 
@@ -144,7 +144,7 @@ module _ (s : Search) (n b : ℕ) (choice : Choice) (root : IsRootOf s n b choic
   below_there h = plus_rest (Some (record { nodes = 1; sum = n * price k })) below (subst (λ (o : Option Load). IsSome o) (sym root.load) h)
 
   pub node_built : (x : Load) (m : NodeMeeting) (u : Teams) (old mid new : List NodeMeeting) → table_of s.rows.items n b ≡ Some x → mid ≡ old ++ m ∷ [] → sight_in m ≡ k
-      → ((t : TypeTable) → IsExample t k n choice.sizes.counts choice.sizes.example → AreOf n choice.sizes.counts → IsNode t sizes m)
+      → ((t : TypeTable) (allowed : Sight → Bool) → allowed k ≡ true → IsSightOf t k → IsExample t k n choice.sizes.counts choice.sizes.example → AreOf n choice.sizes.counts → IsNode t allowed sizes m)
       → ((y : Load) → below ≡ Some y → AddsTeams s.roots.items (b - price k) sizes y u mid new) → AddsNode s.roots.items n b x u old new
   node_built x m u old mid new e is looks node others =
       let first : Load = record { nodes = 1; sum = n * price k } in
@@ -152,30 +152,30 @@ module _ (s : Search) (n b : ℕ) (choice : Choice) (root : IsRootOf s n b choic
       let rest = others p.y p.rest in
       let one : 1 ≡ p.x.nodes = ap nodes_or p.first in
       let cost : n * price k ≡ p.x.sum = ap sum_or p.first in
-      let paid : price_in m ≡ price k = ap price looks in
       let count : members u ≡ n = sym (sizes_sum u) ∙ (ap sum rest.2.sizes_are ∙ root.of_n.division.whole) in
+      let paid : price_in m ≡ price k = ap price looks in
       let same : members u * price_in m ≡ n * price k = ap (λ j. j * price_in m) count ∙ ap (λ j. n * j) paid in (
         m ∷ rest.0,
         rest.1 ∙ (ap (λ l. l ++ rest.0) is ∙ append_assoc old (m ∷ []) rest.0),
         record {
           count = count;
           nodes_are = omega (arith, one, p.nodes_are, rest.2.nodes_are);
-          are = λ t h. record {
+          are = λ t allowed h. record {
             root = m;
             below = rest.0;
             steps_below = p.y.sum;
             split = refl;
             sum_is = omega (arith, p.sum_is, cost, same);
-            node = subst (λ l. IsNode t l m) (sym rest.2.sizes_are) (node t (root.example t h) root.of_n);
+            node = subst (λ l. IsNode t allowed l m) (sym rest.2.sizes_are) (node t allowed (root.is_allowed t allowed h) (root.of_type t allowed h) (root.example t allowed h) root.of_n);
             within = subst (λ j. j ≤ b) (sym paid) root.paid;
-            are_below = subst (λ j. AreNodes t (b - j) u rest.0 p.y.sum) (sym paid) (rest.2.are t h);
+            are_below = subst (λ j. AreNodes t allowed (b - j) u rest.0 p.y.sum) (sym paid) (rest.2.are t allowed h);
           };
         },
       )
 
   -- the same, by what is equal
   pub node_from : (x : Load) (m : NodeMeeting) (u : Teams) (old mid new : List NodeMeeting) (list : List ℕ) (j : ℕ) → list ≡ sizes → j ≡ price k → table_of s.rows.items n b ≡ Some x → mid ≡ old ++ m ∷ [] → sight_in m ≡ k
-      → ((t : TypeTable) → IsExample t k n choice.sizes.counts choice.sizes.example → AreOf n choice.sizes.counts → IsNode t sizes m)
+      → ((t : TypeTable) (allowed : Sight → Bool) → allowed k ≡ true → IsSightOf t k → IsExample t k n choice.sizes.counts choice.sizes.example → AreOf n choice.sizes.counts → IsNode t allowed sizes m)
       → ((y : Load) → load_of_teams (table_of s.rows.items) (b - j) list ≡ Some y → AddsTeams s.roots.items (b - j) list y u mid new) → AddsNode s.roots.items n b x u old new
   node_from x m u old mid new list j lists prices e is looks node others =
       node_built x m u old mid new e is looks node (λ y f.

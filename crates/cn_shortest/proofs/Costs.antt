@@ -6,12 +6,10 @@ use Rattle.cn_meetings.specs.Meeting.{Sight}
 use Rattle.cn_trees.specs.Tree.{PlanTree}
 use Rattle.cn_tree_costs.specs.Cost.{IsLeastPlan, IsTreeFor, cost}
 use Rattle.cn_tree_costs.specs.Least as least
-use Rattle.cn_tree_costs.specs.Least.{AreRoots, IsLoadTable, LoadTable}
 use Rattle.cn_shortest.specs.Costs.{HaveNoLoad, IsFirstCost, IsLeastCost, cost_of}
-use Rattle.cn_shortest.specs.Loads.{all_roots, load_at, load_in, table_of}
-use Rattle.cn_shortest.specs.declared.least.Cost.{Cost}
+use Rattle.cn_shortest.specs.Loads.{load_at, load_in, table_of}
+use Rattle.cn_tree_plans.specs.declared.plan.Cost.{Cost}
 use Rattle.cn_shortest.specs.declared.loads.Row.{Row}
-use Rattle.cn_shortest.specs.declared.roots.Roots.{Roots}
 
 abbrev is_some_of : Option least.Load → Bool
 is_some_of None = false
@@ -21,8 +19,8 @@ some_of : (o : Option least.Load) → IsSome o → is_some_of o ≡ true
 some_of None e = e
 some_of (Some x) e = refl
 
-module _ (roots : List Roots) (rows : List Row) (row : Row) (n : ℕ) (t : TypeTable) (allowed : Sight → Bool) (are : AreRoots t allowed n (all_roots roots)) (table : IsLoadTable (all_roots roots) n 28 (table_of rows))
-    (two : 2 ≤ n) (few : n ≤ 8) (at : slice_get rows (n - 1) ≡ Some row)
+module _ (rows : List Row) (row : Row) (n : ℕ) (t : TypeTable) (allowed : Sight → Bool)
+    (few : n ≤ 8) (at : slice_get rows (n - 1) ≡ Some row)
     (law : (b : ℕ) (x : least.Load) → b ≤ 28 → table_of rows n b ≡ Some x → ((c : ℕ) → c < b → table_of rows n c ≡ None)
     → (T : PlanTree) × IsLeastPlan t allowed n T × (cost T ≡ record { steps = b; nodes = x.nodes; sum = x.sum }))
     (exact : IsSome (table_of rows n (4 * (n - 1))) ↔ ((T : PlanTree) × IsTreeFor t allowed n T)) where

@@ -1,8 +1,9 @@
 -- Elements of lists, by their places.
 use Rattle.std.proofs.Common.{ℕ, zero, suc, ◌≡◌, ◌+◌, ◌<◌, ◌⊎◌, inl, inr, List, [], ◌∷◌, ◌++◌, get_or, length, map, refl, sym, ap, ◌∙◌, subst, arith, Some}
-use Rattle.std.specs.Prelude.{All, Contains, slice_get, slice_index_or}
+use Rattle.std.specs.Prelude.{All, Contains, flat_map, slice_get, slice_index_or}
 use Rattle.std.proofs.lemmas.Bool.{cases_lt}
 use Rattle.std.proofs.lemmas.List.Elements.{All-head, All-tail}
+use Rattle.std.proofs.lemmas.List.Concat.{flat_map-cons}
 use Rattle.std.proofs.lemmas.Option.{none-some, same_Some, slice_get-get_or, slice_get_within}
 use Rattle.cn_shortest.specs.declared.sizes.Sizes.{Sizes}
 
@@ -65,3 +66,17 @@ pub element_at : {X : Type 0} (xs : List X) (i : ℕ) → i < length xs → (x :
 element_at [] i l = absurd (omega (arith, l))
 element_at (x ∷ xs) zero l = (x, refl)
 element_at (x ∷ xs) (suc i) l = element_at xs i (omega (arith, l))
+
+-- ---- lists of several elements for each
+pub contains_flat : {X Y : Type 0} (f : X → List Y) (xs : List X) (y : Y) → Contains (flat_map f xs) y → (i : ℕ) × (x : X) × (slice_get xs i ≡ Some x) × Contains (f x) y
+contains_flat f [] y h = (let l = h.1 in absurd (omega (arith, l)))
+contains_flat f (x ∷ xs) y h = elim (contains_either (f x) (flat_map f xs) y (subst (λ l. Contains l y) (flat_map-cons f x xs) h)) [
+  | inl i ↦ (0, x, refl, i)
+  | inr i ↦ (let r = contains_flat f xs y i in (suc r.0, r.1, r.2, r.3))
+]
+
+pub flat_contains : {X Y : Type 0} (f : X → List Y) (xs : List X) (i : ℕ) (x : X) (y : Y) → slice_get xs i ≡ Some x → Contains (f x) y → Contains (flat_map f xs) y
+flat_contains f [] i x y e h = absurd (none-some x e)
+flat_contains f (z ∷ xs) zero x y e h =
+    subst (λ l. Contains l y) (sym (flat_map-cons f z xs)) (contains_before (f z) (flat_map f xs) y (subst (λ u. Contains (f u) y) (sym (same_Some z x e)) h))
+flat_contains f (z ∷ xs) (suc i) x y e h = subst (λ l. Contains l y) (sym (flat_map-cons f z xs)) (contains_later (f z) (flat_map f xs) y (flat_contains f xs i x y e h))

@@ -1,27 +1,26 @@
 -- No root is missing from the list: the teams of a witness are those of the finest division, merged.
-use Rattle.std.proofs.Common.{ℕ, zero, suc, ◌≡◌, ◌+◌, ◌<◌, ◌≤◌, true, true≢false, List, sym, ap, ◌∙◌, subst, arith, nat_lt, Some, slice_get}
+use Rattle.std.proofs.Common.{ℕ, zero, suc, ◌≡◌, ◌+◌, ◌<◌, ◌≤◌, Bool, true, List, sym, ap, ◌∙◌, subst, arith, nat_lt, Some, slice_get}
 use Rattle.std.specs.Prelude.{Contains, IsPermutation, sum}
 use Rattle.std.proofs.lemmas.Bool.Decides.{nat_tests}
 use Rattle.std.proofs.lemmas.List.Sorted.{IsPermutation-sym}
 use Rattle.cn_divisions.specs.Divisions.{AreAllSizes, AreParted, IsFinestOf, IsMeetingOf, first}
+use Rattle.cn_meetings.specs.Sights.{sight_of}
 use Rattle.cn_divisions.specs.declared.divisions.Division.{Division}
 use Rattle.cn_meetings.specs.Division.{IsFinest}
 use Rattle.cn_meetings.specs.Meeting.{Meeting, Sight}
-use Rattle.cn_meetings.specs.Meeting.Sight.{Nothing, Response, State}
 use Rattle.cn_meetings.specs.Witness.{IsTeamWitness}
 use Rattle.cn_meetings.proofs.Finest.{coarser, finest}
 use Rattle.cn_stocks.specs.Each.{EachAt}
 use Rattle.cn_table.specs.TypeTable.{TypeTable}
 use Rattle.cn_tree_costs.specs.Least.{AreRoots, IsRoot, Root}
 use Rattle.cn_tree_costs.specs.Sizes.{HasSizes, IsDivision, block, price}
-use Rattle.cn_shortest.specs.Costs.{two_sights}
-use Rattle.cn_shortest.specs.Loads.{AreAllOf, all_roots, root_with, roots_at, roots_in, roots_with}
+use Rattle.cn_shortest.specs.Loads.{AreAllOf, all_roots, root_with, roots_at, roots_by, roots_in}
 use Rattle.cn_shortest.specs.Roots.{AreSizesOf}
 use Rattle.cn_shortest.specs.Sizes.{AreCounts, AreOf, sizes_of}
 use Rattle.cn_shortest.specs.declared.roots.Roots.{Roots}
 use Rattle.cn_shortest.specs.declared.sizes.Sizes.{Sizes}
 use Rattle.cn_shortest.proofs.Coarser.{reached, two_teams}
-use Rattle.cn_shortest.proofs.Elements.{all_at, contains_before, contains_later, element_at, mapped_at}
+use Rattle.cn_shortest.proofs.Elements.{all_at, element_at, flat_contains, mapped_at}
 use Rattle.cn_shortest.proofs.Merging.{counted_same}
 use Rattle.cn_tree_costs.proofs.Numbers.{two_or_more}
 use Rattle.cn_shortest.proofs.Sound.{AreRootsOf, roots_sound}
@@ -74,25 +73,32 @@ module _ (t : TypeTable) (sight : Sight) (n : ℕ) (divisions : List Division) (
 abbrev IsListed : List Root → Sight → List ℕ → Type 0
 IsListed roots sight sizes = (listed : Root) × Contains roots listed × (price listed.sight ≤ price sight) × IsPermutation sizes listed.sizes
 
-enough_in : (t : TypeTable) (n : ℕ) (r : Roots) → n ≤ 8 → AreRootsOf t n r → (sight : Sight) (sizes : List ℕ) → two_sights sight ≡ true → HasSizes t sight sizes → IsDivision n sizes → IsListed (roots_in r) sight sizes
-enough_in t n r few are State sizes may has division =
-    let h = listed_sizes t State n are.divisions.state.items r.state.items sizes few are.are.0 are.state has division in
-    (root_with State h.1, contains_later (roots_with Nothing r.nothing.items) (roots_with State r.state.items) (root_with State h.1) (mapped_at (root_with State) r.state.items h.0 h.1 h.2), omega arith, h.3)
-enough_in t n r few are Nothing sizes may has division =
-    let h = listed_sizes t Nothing n are.divisions.nothing.items r.nothing.items sizes few are.are.1 are.nothing has division in
-    (root_with Nothing h.1, contains_before (roots_with Nothing r.nothing.items) (roots_with State r.state.items) (root_with Nothing h.1) (mapped_at (root_with Nothing) r.nothing.items h.0 h.1 h.2), omega arith, h.3)
-enough_in t n r few are (Response o) sizes may has division = absurd (true≢false (sym may))
+module _ (t : TypeTable) (allow : Sight → Bool) where
+  enough_in : (n : ℕ) (r : Roots) → n ≤ 8 → AreRootsOf t allow n r → (sight : Sight) (sizes : List ℕ) → allow sight ≡ true → HasSizes t sight sizes → IsDivision n sizes → IsListed (roots_in r) sight sizes
+  enough_in n r few are sight sizes may has division =
+      let x = are.all sight may has.known in
+      let of_sight = x.1 in
+      let k = sight_of of_sight.sight in
+      let here = (are.each x.0 of_sight x.2).1 in
+      let h = listed_sizes t k n here.divisions of_sight.sizes.items sizes few here.are here.sizes (subst (λ s. HasSizes t s sizes) (sym x.3) has) division in
+      let same : price k ≡ price sight = ap price x.3 in (
+        root_with k h.1,
+        flat_contains roots_by r.by_sight.items x.0 of_sight (root_with k h.1) x.2 (mapped_at (root_with k) of_sight.sizes.items h.0 h.1 h.2),
+        omega (arith, same),
+        h.3,
+      )
 
-enough_of : (t : TypeTable) (list : List Roots) (count : ℕ) → count ≤ 7 → EachAt (λ i r. AreAllOf (i + 2) r × AreRootsOf t (i + 2) r) count list → (n : ℕ) (root : Root) → n ≤ count + 1 → IsRoot t two_sights n root → IsListed (all_roots list n) root.sight root.sizes
-enough_of t list count few each zero root l is = absurd (omega (arith, two_or_more 0 root.sizes is.division))
-enough_of t list count few each (suc zero) root l is = absurd (omega (arith, two_or_more 1 root.sizes is.division))
-enough_of t list count few each (suc (suc m)) root l is =
-    let long = each.0 in
-    let at = element_at list m (omega (arith, l, long)) in
-    let same : m + 2 ≡ suc (suc m) = omega arith in
-    let here : AreRootsOf t (suc (suc m)) at.0 = subst (λ n. AreRootsOf t n at.0) same (each.1 m at.0 at.1).1 in
-    subst (λ roots. IsListed roots root.sight root.sizes) (sym (ap roots_at at.1))
-    (enough_in t (suc (suc m)) at.0 (omega (arith, l, few)) here root.sight root.sizes is.is_allowed is.witness is.division)
+  enough_of : (list : List Roots) (count : ℕ) → count ≤ 7 → EachAt (λ i r. AreAllOf (i + 2) r × AreRootsOf t allow (i + 2) r) count list → (n : ℕ) (root : Root) → n ≤ count + 1 → IsRoot t allow n root
+      → IsListed (all_roots list n) root.sight root.sizes
+  enough_of list count few each zero root l is = absurd (omega (arith, two_or_more 0 root.sizes is.division))
+  enough_of list count few each (suc zero) root l is = absurd (omega (arith, two_or_more 1 root.sizes is.division))
+  enough_of list count few each (suc (suc m)) root l is =
+      let long = each.0 in
+      let at = element_at list m (omega (arith, l, long)) in
+      let same : m + 2 ≡ suc (suc m) = omega arith in
+      let here : AreRootsOf t allow (suc (suc m)) at.0 = subst (λ n. AreRootsOf t allow n at.0) same (each.1 m at.0 at.1).1 in
+      subst (λ roots. IsListed roots root.sight root.sizes) (sym (ap roots_at at.1))
+      (enough_in (suc (suc m)) at.0 (omega (arith, l, few)) here root.sight root.sizes is.is_allowed is.witness is.division)
 
-pub roots_enough : (t : TypeTable) (list : List Roots) (count : ℕ) → count ≤ 7 → EachAt (λ i r. AreAllOf (i + 2) r × AreRootsOf t (i + 2) r) count list → AreRoots t two_sights (count + 1) (all_roots list)
-roots_enough t list count few each = record { sound = roots_sound t list count each; enough = enough_of t list count few each }
+  pub roots_enough : (list : List Roots) (count : ℕ) → count ≤ 7 → EachAt (λ i r. AreAllOf (i + 2) r × AreRootsOf t allow (i + 2) r) count list → AreRoots t allow (count + 1) (all_roots list)
+  roots_enough list count few each = record { sound = roots_sound t allow list count each; enough = enough_of list count few each }

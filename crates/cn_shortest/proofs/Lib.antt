@@ -8,8 +8,10 @@ pub mod Enough
 pub mod Entries
 pub mod ExampleTeams
 pub mod Lesser
+pub mod Listing
 pub mod Loading
 pub mod Merging
+pub mod MostProcesses
 pub mod Moves
 pub mod Nodes
 pub mod OrderedNodes

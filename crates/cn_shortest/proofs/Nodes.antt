@@ -1,10 +1,11 @@
 -- Meetings of the nodes below teams: how many there are, what each of them is, and their steps.
-use Rattle.std.proofs.Common.{ℕ, zero, suc, ◌≡◌, ◌+◌, ◌-◌, ◌*◌, ◌<◌, ◌≤◌, inl, inr, true, false, List, ◌∷◌, ◌++◌, length, length-append, sym, ap, ◌∙◌, subst, arith, nat_lt}
+use Rattle.std.proofs.Common.{ℕ, zero, suc, ◌≡◌, ◌+◌, ◌-◌, ◌*◌, ◌<◌, ◌≤◌, inl, inr, Bool, true, false, List, ◌∷◌, ◌++◌, length, length-append, sym, ap, ◌∙◌, subst, arith, nat_lt}
 use Rattle.std.specs.Prelude.{slice_index_or}
 use Rattle.std.proofs.Math.ListN.{get_or-append}
 use Rattle.std.proofs.lemmas.Bool.{cases_lt}
 use Rattle.std.proofs.lemmas.Bool.Decides.{nat_tests}
 use Rattle.std.proofs.lemmas.List.{get_or-append-add}
+use Rattle.cn_meetings.specs.Meeting.{Sight}
 use Rattle.cn_table.specs.TypeTable.{TypeTable}
 use Rattle.cn_trees.specs.Tree.{Teams, members, nodes_in}
 use Rattle.cn_trees.specs.Tree.Teams.{Alone, Last, Meet}
@@ -20,27 +21,27 @@ use Rattle.cn_tree_costs.proofs.Numbers.{total_first}
 abbrev pub at : List NodeMeeting → ℕ → NodeMeeting
 at meetings v = slice_index_or meetings v no_meeting
 
-module _ (t : TypeTable) where
-  pub nodes_long : (b : ℕ) (s : Teams) (ms : List NodeMeeting) (steps : ℕ) → AreNodes t b s ms steps → length ms ≡ nodes_in s
+module _ (t : TypeTable) (allowed : Sight → Bool) where
+  pub nodes_long : (b : ℕ) (s : Teams) (ms : List NodeMeeting) (steps : ℕ) → AreNodes t allowed b s ms steps → length ms ≡ nodes_in s
   nodes_long b Last ms steps are = ap length are.0
   nodes_long b (Alone r) ms steps are = nodes_long b r ms steps are
   nodes_long b (Meet s r) ms steps (m, xs, ys, x, y, split, sum_is, node, within, first, rest) =
       omega (arith, ap length split, length-append xs ys, nodes_long (b - price_in m) s xs x first, nodes_long b r ys y rest)
 
-  pub several_below : (b : ℕ) (s : Teams) (ms : List NodeMeeting) (steps : ℕ) → AreNodes t b s ms steps → AreSeveralBelow s
+  pub several_below : (b : ℕ) (s : Teams) (ms : List NodeMeeting) (steps : ℕ) → AreNodes t allowed b s ms steps → AreSeveralBelow s
   several_below b Last ms steps are = tt
   several_below b (Alone r) ms steps are = several_below b r ms steps are
   several_below b (Meet s r) ms steps (m, xs, ys, x, y, split, sum_is, node, within, first, rest) =
       (node.several, several_below (b - price_in m) s xs x first, several_below b r ys y rest)
 
   -- the meeting of a node with the teams of the node
-  pub node_is : (b : ℕ) (s : Teams) (ms : List NodeMeeting) (steps : ℕ) → AreNodes t b s ms steps → (v : ℕ) → v < nodes_in s → IsNode t (sizes_of (node_below s v).teams) (at ms v)
+  pub node_is : (b : ℕ) (s : Teams) (ms : List NodeMeeting) (steps : ℕ) → AreNodes t allowed b s ms steps → (v : ℕ) → v < nodes_in s → IsNode t allowed (sizes_of (node_below s v).teams) (at ms v)
   node_is b Last ms steps are v l = absurd (omega arith)
   node_is b (Alone r) ms steps are v l = node_is b r ms steps are v l
-  node_is b (Meet s r) ms steps (m, xs, ys, x, y, split, sum_is, node, within, first, rest) zero l = subst (λ ms. IsNode t (sizes_of s) (at ms 0)) (sym split) node
+  node_is b (Meet s r) ms steps (m, xs, ys, x, y, split, sum_is, node, within, first, rest) zero l = subst (λ ms. IsNode t allowed (sizes_of s) (at ms 0)) (sym split) node
   node_is b (Meet s r) ms steps (m, xs, ys, x, y, split, sum_is, node, within, first, rest) (suc v) l =
       let long = nodes_long (b - price_in m) s xs x first in
-      subst (λ ms. IsNode t (sizes_of (node_below (Meet s r) (suc v)).teams) (at ms (suc v))) (sym split) (elim (cases_lt v (nodes_in s)) [
+      subst (λ ms. IsNode t allowed (sizes_of (node_below (Meet s r) (suc v)).teams) (at ms (suc v))) (sym split) (elim (cases_lt v (nodes_in s)) [
         | inl u ↦ (
             let test : nat_lt v (nodes_in s) ≡ true = grind (arith, nat_tests) in
             let here : at (xs ++ ys) v ≡ at xs v = get_or-append xs ys no_meeting v (omega (arith, long)) in
@@ -72,7 +73,7 @@ module _ (t : TypeTable) where
       rest_priced : Priced (next + 1 + nodes_in s) r ys
       rest_priced v l = price_here (suc (length xs + v)) (next + 1 + nodes_in s + v) (omega arith) (omega arith) ∙ ap price_in (get_or-append-add xs ys v no_meeting)
 
-    pub steps_within : (b next : ℕ) (s : Teams) (ms : List NodeMeeting) (steps : ℕ) → AreNodes t b s ms steps → Priced next s ms → (p : ℕ) → p < members s → under prices s next p ≤ b
+    pub steps_within : (b next : ℕ) (s : Teams) (ms : List NodeMeeting) (steps : ℕ) → AreNodes t allowed b s ms steps → Priced next s ms → (p : ℕ) → p < members s → under prices s next p ≤ b
     steps_within b next Last ms steps are is p l = omega arith
     steps_within b next (Alone r) ms steps are is zero l = omega arith
     steps_within b next (Alone r) ms steps are is (suc p) l = steps_within b next r ms steps are is p (omega arith)
@@ -96,7 +97,7 @@ module _ (t : TypeTable) where
               )
         ]
 
-    pub steps_sum : (b next : ℕ) (s : Teams) (ms : List NodeMeeting) (steps : ℕ) → AreNodes t b s ms steps → Priced next s ms → total (under prices s next) (members s) ≡ steps
+    pub steps_sum : (b next : ℕ) (s : Teams) (ms : List NodeMeeting) (steps : ℕ) → AreNodes t allowed b s ms steps → Priced next s ms → total (under prices s next) (members s) ≡ steps
     steps_sum b next Last ms steps are is = sym are.1
     steps_sum b next (Alone r) ms steps are is =
         let e : 1 + members r ≡ suc (members r) = omega arith in

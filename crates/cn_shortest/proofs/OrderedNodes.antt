@@ -1,5 +1,5 @@
 -- An example whose processes stand in the order of their teams is a node.
-use Rattle.std.proofs.Common.{ℕ, ◌≡◌, ◌<◌, inl, inr, List, length, map, get_or, sym, ap, ◌∙◌, subst, arith}
+use Rattle.std.proofs.Common.{ℕ, ◌≡◌, ◌<◌, inl, inr, Bool, true, List, length, map, get_or, sym, ap, ◌∙◌, subst, arith}
 use Rattle.std.specs.Prelude.{slice_index, sum}
 use Rattle.std.proofs.Math.ListN.{get_or-eq_default}
 use Rattle.std.proofs.Math.Path.{fun_ext}
@@ -7,7 +7,7 @@ use Rattle.std.proofs.lemmas.Bool.{cases_lt}
 use Rattle.std.proofs.lemmas.Bool.Decides.{nat_tests}
 use Rattle.std.proofs.lemmas.List.{get_or-map, length-map}
 use Rattle.cn_divisions.specs.Divisions.{first, meeting_of}
-use Rattle.cn_meetings.specs.Meeting.{Meeting, Sight}
+use Rattle.cn_meetings.specs.Meeting.{IsSightOf, Meeting, Sight}
 use Rattle.cn_meetings.specs.Witness.{Has, IsTeamWitness}
 use Rattle.cn_meetings.proofs.Renaming.{renaming}
 use Rattle.cn_table.specs.TypeTable.{TypeTable}
@@ -84,10 +84,12 @@ module _ (t : TypeTable) (sight : Sight) (n : ℕ) (counts : List ℕ) (e : Exam
       (same_witness t R n (λ p. team (role p)) (block (map (team_size team n) (teams_below team n 8)))
       (λ p q lp lq s. same_block team n beyond p q (inside p lp) (inside q lq) s) ordered_witness)
 
-  pub node_of_example : (m : NodeMeeting) → m.start ≡ e.start.0 → m.operations ≡ ordered_operations e n → sight_in m ≡ sight → IsNode t (sizes_of counts) m
-  node_of_example m start operations looks =
+  pub node_of_example : (allowed : Sight → Bool) → allowed sight ≡ true → IsSightOf t sight → (m : NodeMeeting) → m.start ≡ e.start.0 → m.operations ≡ ordered_operations e n → sight_in m ≡ sight → IsNode t allowed (sizes_of counts) m
+  node_of_example allowed may known_sight m start operations looks =
       let whole : sum (sizes_of counts) ≡ n = of.division.whole in
       record {
+        is_allowed = ap allowed looks ∙ may;
+        of_type = subst (IsSightOf t) (sym looks) known_sight;
         start = (let l = is.start in omega (arith, l, start));
         long = ap length operations ∙ (length-map order (λ (q : ℕ). slice_index e.operations q) ∙ (long ∙ sym whole));
         operations = λ p l. (

@@ -4,18 +4,18 @@ use Rattle.std.specs.Prelude.{Contains, slice_get}
 use Rattle.std.proofs.lemmas.Bool.{cases_lt}
 use Rattle.std.proofs.lemmas.Option.{none-some, slice_get-get_or, slice_get_past}
 use Rattle.std.proofs.Math.ListN.{get_or-eq_default}
-use Rattle.cn_meetings.specs.Meeting.Sight.{Nothing, State}
+use Rattle.cn_meetings.specs.Sights.{sight_of}
 use Rattle.cn_stocks.specs.Each.{EachAt}
 use Rattle.cn_stocks.proofs.StockLemmas.{get_before, get_behind}
 use Rattle.cn_tree_costs.specs.Least as least
 use Rattle.cn_tree_costs.specs.Least.{IsAtMost, IsLoadTable, LoadTable, Root, load_of_root}
 use Rattle.cn_tree_costs.specs.Sizes.{IsDivision, price}
-use Rattle.cn_shortest.specs.Loads.{AreAllOf, IsEntry, IsSmallTable, all_roots, load_at, load_in, load_of, root_with, roots_at, roots_in, roots_with, table_of}
+use Rattle.cn_shortest.specs.Loads.{AreAllOf, IsEntry, IsSmallTable, all_roots, load_at, load_in, load_of, root_with, roots_at, roots_by, roots_in, table_of}
 use Rattle.cn_shortest.specs.Sizes.{AreOf}
 use Rattle.cn_shortest.specs.declared.loads.Load.{Load}
 use Rattle.cn_shortest.specs.declared.loads.Row.{Row}
 use Rattle.cn_shortest.specs.declared.roots.Roots.{Roots}
-use Rattle.cn_shortest.proofs.Elements.{all_at, contains_either, contains_mapped}
+use Rattle.cn_shortest.proofs.Elements.{all_at, contains_flat, contains_mapped}
 use Rattle.cn_shortest.proofs.Loading.{root_small, same_root}
 use Rattle.cn_tree_costs.proofs.Loads.{nodes_or, sum_or}
 
@@ -31,12 +31,11 @@ table_at rows place b none l =
 
 -- the roots are those of divisions
 pub division_in : (n : ℕ) (r : Roots) (root : Root) → AreAllOf n r → Contains (roots_in r) root → IsDivision n root.sizes
-division_in n r root all h = elim (contains_either (roots_with Nothing r.nothing.items) (roots_with State r.state.items) root h) [
-  | inl i ↦ (let m = contains_mapped (root_with Nothing) r.nothing.items root i in
-      subst (λ (x : Root). IsDivision n x.sizes) m.3 (all_at (λ s. AreOf n s.counts) r.nothing.items m.0 m.1 all.1 m.2).division)
-  | inr i ↦ (let m = contains_mapped (root_with State) r.state.items root i in
-      subst (λ (x : Root). IsDivision n x.sizes) m.3 (all_at (λ s. AreOf n s.counts) r.state.items m.0 m.1 all.0 m.2).division)
-]
+division_in n r root all h =
+    let f = contains_flat roots_by r.by_sight.items root h in
+    let x = f.1 in
+    let m = contains_mapped (root_with (sight_of x.sight)) x.sizes.items root f.3 in
+    subst (λ (y : Root). IsDivision n y.sizes) m.3 (all_at (λ s. AreOf n s.counts) x.sizes.items m.0 m.1 (all f.0 x f.2) m.2).division
 
 pub division_at : (roots : List Roots) (all : (i : ℕ) (r : Roots) → slice_get roots i ≡ Some r → AreAllOf (i + 2) r) (n : ℕ) (root : Root) → 2 ≤ n → Contains (all_roots roots n) root → IsDivision n root.sizes
 division_at roots all zero root two h = absurd (omega (arith, two))

@@ -1,25 +1,25 @@
 -- The root that a search chooses.
-use Rattle.std.proofs.Common.{ℕ, zero, suc, ◌≡◌, ◌+◌, ◌-◌, ◌<◌, ◌≤◌, inl, inr, List, drop, length, take, sym, ap, ◌∙◌, subst, arith, Option, Some}
+use Rattle.std.proofs.Common.{ℕ, zero, suc, ◌≡◌, ◌+◌, ◌-◌, ◌<◌, ◌≤◌, inl, inr, Bool, true, List, drop, length, take, sym, ap, ◌∙◌, subst, arith, Option, Some}
 use Rattle.std.specs.Prelude.{All, Contains, slice_get}
 use Rattle.std.proofs.lemmas.Bool.{cases_lt}
 use Rattle.std.proofs.lemmas.List.{length-take-le, take-append-drop}
 use Rattle.std.proofs.lemmas.Option.{none-some, slice_get_past}
 use Rattle.cn_stocks.proofs.StockLemmas.{get_before}
+use Rattle.cn_meetings.specs.Meeting.{IsSightOf, Sight}
 use Rattle.cn_table.specs.TypeTable.{TypeTable}
 use Rattle.cn_tree_costs.specs.Least as least
 use Rattle.cn_tree_costs.specs.Least.{Root, load_of_root}
-use Rattle.cn_shortest.specs.Choosing.{IsChoice, sizes_by}
+use Rattle.cn_shortest.specs.Choosing.{IsChoice}
+use Rattle.cn_shortest.specs.Examples.{IsExample}
 use Rattle.cn_shortest.specs.Loads.{AreAllOf, IsLoadOf, IsSmallTable, all_roots, load_at, root_with, roots_at, roots_in, table_of}
-use Rattle.cn_shortest.specs.Roots.{AreFound, IsFound}
-use Rattle.cn_shortest.specs.Searches.{IsRootOf, IsSearch}
-use Rattle.cn_shortest.specs.Sights.{sight_of}
+use Rattle.cn_shortest.specs.Roots.{IsFound}
+use Rattle.cn_shortest.specs.Searches.{HasExamples, HaveExamples, IsRootOf, IsSearch}
+use Rattle.cn_meetings.specs.Sights.{sight_of}
 use Rattle.cn_shortest.specs.Sizes.{AreOf}
 use Rattle.cn_shortest.specs.declared.choosing.Choice.{Choice}
 use Rattle.cn_shortest.specs.declared.loads.Row.{Row}
 use Rattle.cn_shortest.specs.declared.roots.Roots.{Roots}
 use Rattle.cn_shortest.specs.declared.search.Search.{Search}
-use Rattle.cn_shortest.specs.declared.sights.Sight as sights
-use Rattle.cn_shortest.specs.declared.sights.Sight.TheVariants.{Nothing, State}
 use Rattle.cn_shortest.proofs.Elements.{all_at}
 use Rattle.cn_shortest.proofs.Loading.{same_root}
 use Rattle.cn_shortest.proofs.Rows.{division_at}
@@ -48,15 +48,6 @@ module _ (rows : List Row) (k : ℕ) (short : k ≤ length rows) where
     | inl l ↦ small m b x one (sym (front_at m b one (omega (arith, one, l))) ∙ e)
     | inr l ↦ absurd (none-some x (sym (ap (λ (o : Option Row). load_at o b) (slice_get_past front (m - 1) (omega (arith, l, front_long)))) ∙ e))
   ]
-
--- ---- by how the processes look
-of_kind : (k : sights.Sight) (n : ℕ) (r : Roots) → AreAllOf n r → All (λ s. AreOf n s.counts) (sizes_by k r)
-of_kind State n r all = all.0
-of_kind Nothing n r all = all.1
-
-found_kind : (k : sights.Sight) (t : TypeTable) (n : ℕ) (r : Roots) → AreFound t (sight_of State) n r.state.items × AreFound t (sight_of Nothing) n r.nothing.items → AreFound t (sight_of k) n (sizes_by k r)
-found_kind State t n r all = all.0
-found_kind Nothing t n r all = all.1
 
 module _ (s : Search) (is : IsSearch s) (n b : ℕ) (two : 2 ≤ n) (few : n ≤ length s.rows.items) (within : b ≤ 28) (here : Roots) (at : slice_get s.roots.items (n - 2) ≡ Some here) where
   abbrev rows : List Row
@@ -92,16 +83,20 @@ module _ (s : Search) (is : IsSearch s) (n b : ℕ) (two : 2 ≤ n) (few : n ≤
 
   pub root_is : (x : least.Load) (choice : Choice) → table_of s.rows.items n b ≡ Some x → IsChoice (table_of rows) (length rows + 1) b here x choice → IsRootOf s n b choice
   root_is x choice e h =
-      let of_n : AreOf n choice.sizes.counts = all_at (λ c. AreOf n c.counts) (sizes_by choice.sight here) h.1 choice.sizes (of_kind choice.sight n here all_here) h.2 in
+      let of_n : AreOf n choice.sizes.counts = all_at (λ c. AreOf n c.counts) h.of_sight.sizes.items h.place choice.sizes (all_here h.which h.of_sight h.is_there) h.is_at in
       let k = sight_of choice.sight in
-      let load : load_of_root (table_of rows) n b (root_with k choice.sizes) ≡ Some x = subst (λ m. load_of_root (table_of rows) m b (root_with k choice.sizes) ≡ Some x) rows_long h.0.1 in
+      let load : load_of_root (table_of rows) n b (root_with k choice.sizes) ≡ Some x = subst (λ m. load_of_root (table_of rows) m b (root_with k choice.sizes) ≡ Some x) rows_long h.has.1 in
       let same = same_root (table_of rows) (table_of s.rows.items) n b (root_with k choice.sizes) (λ m c l u. front_at s.rows.items (n - 1) short m c l (omega (arith, u, two))) of_n.division in
+      let m : n - 2 + 2 ≡ n = omega (arith, two) in
+      let examples : (t : TypeTable) (allowed : Sight → Bool) → HaveExamples t allowed roots → HasExamples t allowed n h.of_sight =
+      λ t allowed have. subst (λ m. HasExamples t allowed m h.of_sight) m (have (n - 2) h.which here h.of_sight at h.is_there) in
+      let found : (t : TypeTable) (allowed : Sight → Bool) → HaveExamples t allowed roots → IsFound t (sight_of h.of_sight.sight) n choice.sizes =
+      λ t allowed have. all_at (IsFound t (sight_of h.of_sight.sight) n) h.of_sight.sizes.items h.place choice.sizes (examples t allowed have).found h.is_at in
       record {
-        paid = h.0.0;
+        paid = h.has.0;
         load = sym same ∙ (load ∙ sym e);
         of_n = of_n;
-        example = λ t have.
-            let m : n - 2 + 2 ≡ n = omega (arith, two) in
-            let found = found_kind choice.sight t n here (subst (λ m. AreFound t (sight_of State) m here.state.items × AreFound t (sight_of Nothing) m here.nothing.items) m (have (n - 2) here at)) in
-            (all_at (IsFound t k n) (sizes_by choice.sight here) h.1 choice.sizes found h.2).example;
+        is_allowed = λ t allowed have. subst (λ s. allowed (sight_of s) ≡ true) h.sight_is (examples t allowed have).is_allowed;
+        of_type = λ t allowed have. subst (λ s. IsSightOf t (sight_of s)) h.sight_is (found t allowed have).has.known;
+        example = λ t allowed have. subst (λ s. IsExample t (sight_of s) n choice.sizes.counts choice.sizes.example) h.sight_is (found t allowed have).example;
       }

@@ -1,50 +1,60 @@
 -- The meetings of all nodes of a tree make a plan tree, at a known cost.
-use Rattle.std.proofs.Common.{ℕ, zero, suc, ◌≡◌, ◌+◌, ◌-◌, ◌*◌, ◌<◌, ◌≤◌, ◌⊎◌, inl, inr, Bool, ◌∷◌, length, List, refl, sym, ap, ◌∙◌, subst, arith}
+use Rattle.std.proofs.Common.{ℕ, zero, suc, ◌≡◌, ◌+◌, ◌-◌, ◌*◌, ◌<◌, ◌≤◌, ◌⊎◌, inl, inr, Bool, true, ◌∷◌, length, List, refl, sym, ap, ◌∙◌, subst, arith}
 use Rattle.std.specs.Prelude.{sum}
 use Rattle.std.proofs.lemmas.Bool.{cases_lt}
 use Rattle.std.proofs.lemmas.Bool.Decides.{nat_tests}
 use Rattle.cn_divisions.specs.Divisions.{first, meeting_of}
+use Rattle.std.proofs.Math.ListN.{get_or-eq_default}
 use Rattle.cn_meetings.specs.Meeting.{Sight}
+use Rattle.cn_meetings.specs.Meeting.Sight.{Nothing}
 use Rattle.cn_meetings.specs.Witness.{Has, IsTeamWitness}
 use Rattle.cn_meetings.proofs.Renaming.{renaming}
 use Rattle.cn_meetings.proofs.Witnesses.{joined_decide}
 use Rattle.cn_table.specs.TypeTable.{TypeTable}
-use Rattle.cn_tree_costs.specs.Cost.{Cost, IsLeastPlan, IsLess, IsTreeFor, cost}
+use Rattle.cn_tree_costs.specs.Cost.{Cost, IsLeastPlan, IsLess, cost}
 use Rattle.cn_tree_costs.specs.Nodes.{node_at}
 use Rattle.cn_tree_costs.specs.Sizes.{block, price, sizes_of}
 use Rattle.cn_tree_plans.specs.Made.{IsFirstMeeting}
-use Rattle.cn_tree_plans.specs.Plan.{AreMeetings, NodeMeeting, TreePlan, meeting_in, tree_of, tree_with}
+use Rattle.cn_tree_plans.specs.Plan.{AreMeetings, NodeMeeting, TreePlan, meeting_in, no_meeting, tree_of, tree_with}
 use Rattle.cn_tree_plans.specs.Teams.{AreProper}
 use Rattle.cn_tree_plans.proofs.PlanLemmas.{ComesIs, TeamIs, sizes_sum}
 use Rattle.cn_trees.specs.Consensus.{steps_of}
-use Rattle.cn_trees.specs.Tree.{PlanTree, Teams, comes_to, members, nodes_in, processes_of, team_in}
+use Rattle.cn_trees.specs.Tree.{AreWitnesses, IsOfType, PlanTree, Teams, comes_to, members, nodes_in, processes_of, team_in}
 use Rattle.cn_shortest.specs.Nodes.{AreTreeNodes, IsNode, IsTreeAt, price_in, sight_in}
 use Rattle.cn_shortest.proofs.Nodes.{at, node_is, nodes_long, several_below, steps_sum, steps_within}
 use Rattle.cn_tree_costs.proofs.Steps.{steps_are, under}
 use Rattle.cn_tree_costs.proofs.Numbers.{greatest_within, total_plus, total_same}
 
-module _ (t : TypeTable) (b : ℕ) (s : Teams) (ms : List NodeMeeting) (steps : ℕ) (are : AreTreeNodes t b s ms steps) where
+module _ (t : TypeTable) (allowed : Sight → Bool) (b : ℕ) (s : Teams) (ms : List NodeMeeting) (steps : ℕ) (are : AreTreeNodes t allowed b s ms steps) where
   below_long : length are.below ≡ nodes_in s
-  below_long = nodes_long t (b - price_in are.root) s are.below are.steps_below are.are_below
+  below_long = nodes_long t allowed (b - price_in are.root) s are.below are.steps_below are.are_below
 
   all_long : length ms ≡ 1 + nodes_in s
   all_long = omega (arith, ap length are.split, below_long)
 
-  node_here : (v : ℕ) → v < 1 + nodes_in s → IsNode t (sizes_of (node_at s v).teams) (at ms v)
-  node_here v l = subst (λ ms. IsNode t (sizes_of (node_at s v).teams) (at ms v)) (sym are.split) (inside v l)
+  node_here : (v : ℕ) → v < 1 + nodes_in s → IsNode t allowed (sizes_of (node_at s v).teams) (at ms v)
+  node_here v l = subst (λ ms. IsNode t allowed (sizes_of (node_at s v).teams) (at ms v)) (sym are.split) (inside v l)
     where
-      inside : (v : ℕ) → v < 1 + nodes_in s → IsNode t (sizes_of (node_at s v).teams) (at (are.root ∷ are.below) v)
+      inside : (v : ℕ) → v < 1 + nodes_in s → IsNode t allowed (sizes_of (node_at s v).teams) (at (are.root ∷ are.below) v)
       inside zero l = are.node
-      inside (suc v) l = node_is t (b - price_in are.root) s are.below are.steps_below are.are_below v (omega arith)
+      inside (suc v) l = node_is t allowed (b - price_in are.root) s are.below are.steps_below are.are_below v (omega arith)
+
+  -- where there is no node, nobody looks
+  pub sights_are : allowed Nothing ≡ true → (v : ℕ) → allowed (sight_in (at ms v)) ≡ true
+  sights_are nobody v = elim (cases_lt v (1 + nodes_in s)) [
+    | inl l ↦ (node_here v l).is_allowed
+    | inr l ↦ ap (λ m. allowed (sight_in m)) (get_or-eq_default ms no_meeting (omega (arith, l, all_long))) ∙ nobody
+  ]
 
   -- ---- what a plan tree is made of
   pub proper_is : AreProper s
-  proper_is = record { several = are.node.several; below = several_below t (b - price_in are.root) s are.below are.steps_below are.are_below }
+  proper_is = record { several = are.node.several; below = several_below t allowed (b - price_in are.root) s are.below are.steps_below are.are_below }
 
   pub meetings_are : AreMeetings t s ms
   meetings_are = record {
     count = all_long;
     starts = λ v l. (node_here v l).start;
+    sights = λ v l. (node_here v l).of_type;
     sizes = λ v l. (node_here v l).long ∙ sizes_sum (node_at s v).teams;
     operations = λ v k l u. (node_here v l).operations k (omega (arith, sizes_sum (node_at s v).teams));
   }
@@ -77,7 +87,7 @@ module _ (t : TypeTable) (b : ℕ) (s : Teams) (ms : List NodeMeeting) (steps : 
         twice.apart (witness_here v meets.node twice.team twice.other p twice.response twice.saw twice.shown.0 twice.shown_again.0 twice.shown.1 twice.shown_again.1 twice.shown.2 twice.shown_again.2)
 
 -- ---- the cost
-module _ (t : TypeTable) (b steps : ℕ) (plan : TreePlan) (are : AreTreeNodes t b plan.teams plan.meetings steps) where
+module _ (t : TypeTable) (allowed : Sight → Bool) (b steps : ℕ) (plan : TreePlan) (are : AreTreeNodes t allowed b plan.teams plan.meetings steps) where
   abbrev s : Teams
   s = plan.teams
 
@@ -96,26 +106,32 @@ module _ (t : TypeTable) (b steps : ℕ) (plan : TreePlan) (are : AreTreeNodes t
   pub steps_most : (cost (tree_of plan)).steps ≤ b
   steps_most = greatest_within (steps_of (tree_of plan)) (members s) b (λ p l.
       let within = are.within in
-      omega (arith, own_steps p l, steps_within t prices (b - price_in are.root) 1 s are.below are.steps_below are.are_below priced p l))
+      omega (arith, own_steps p l, steps_within t allowed prices (b - price_in are.root) 1 s are.below are.steps_below are.are_below priced p l))
 
   pub sum_of : (cost (tree_of plan)).sum ≡ steps
   sum_of =
       total_same (steps_of (tree_of plan)) (λ p. under prices s 1 p + price_in are.root) (members s) own_steps
       ∙ (total_plus (under prices s 1) (price_in are.root) (members s)
-      ∙ (ap (λ k. k + members s * price_in are.root) (steps_sum t prices (b - price_in are.root) 1 s are.below are.steps_below are.are_below priced) ∙ sym are.sum_is))
+      ∙ (ap (λ k. k + members s * price_in are.root) (steps_sum t allowed prices (b - price_in are.root) 1 s are.below are.steps_below are.are_below priced) ∙ sym are.sum_is))
 
 -- a plan of these meetings is a tree at this cost
-pub tree_at : (t : TypeTable) (allowed : Sight → Bool) (b n : ℕ) (s : Teams) (ms : List NodeMeeting) (steps : ℕ) (plan : TreePlan) → AreTreeNodes t b s ms steps → members s ≡ n
-    → plan.table ≡ t → plan.teams ≡ s → plan.meetings ≡ ms → IsTreeFor plan.table allowed (processes_of (tree_of plan)) (tree_of plan)
+pub tree_at : (t : TypeTable) (allowed : Sight → Bool) (b n : ℕ) (s : Teams) (ms : List NodeMeeting) (steps : ℕ) (plan : TreePlan) → allowed Nothing ≡ true → AreTreeNodes t allowed b s ms steps
+    → members s ≡ n → plan.table ≡ t → plan.teams ≡ s → plan.meetings ≡ ms → AreWitnesses (tree_of plan) → IsOfType (tree_of plan)
     → IsTreeAt t allowed n (record { steps = b; nodes = length ms; sum = steps }) (tree_of plan)
-tree_at t allowed b n s ms steps plan are many table teams meetings tree =
-    let here : AreTreeNodes t b plan.teams plan.meetings steps =
-    subst (λ s. AreTreeNodes t b s plan.meetings steps) (sym teams) (subst (λ ms. AreTreeNodes t b s ms steps) (sym meetings) are) in
+tree_at t allowed b n s ms steps plan nobody are many table teams meetings witnesses of_type =
+    let here : AreTreeNodes t allowed b plan.teams plan.meetings steps =
+    subst (λ s. AreTreeNodes t allowed b s plan.meetings steps) (sym teams) (subst (λ ms. AreTreeNodes t allowed b s ms steps) (sym meetings) are) in
     record {
-      tree = subst (λ t. IsTreeFor t allowed n (tree_of plan)) table (subst (λ n. IsTreeFor plan.table allowed n (tree_of plan)) (ap members teams ∙ many) tree);
-      within = steps_most t b steps plan here;
-      nodes_are = omega (arith, all_long t b s ms steps are, ap nodes_in teams);
-      sum_is = sum_of t b steps plan here;
+      tree = record {
+        table = table;
+        processes = ap members teams ∙ many;
+        witnesses = witnesses;
+        of_type = of_type;
+        uniform = λ v. (sight_in (at plan.meetings v), sights_are t allowed b plan.teams plan.meetings steps here nobody v, λ p h. refl);
+      };
+      within = steps_most t allowed b steps plan here;
+      nodes_are = omega (arith, all_long t allowed b s ms steps are, ap nodes_in teams);
+      sum_is = sum_of t allowed b steps plan here;
     }
 
 -- ---- a tree at the cost of a least plan is one

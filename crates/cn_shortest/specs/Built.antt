@@ -1,5 +1,6 @@
 -- Teams and the meetings of their nodes, at the load of a search.
-use Rattle.std.specs.Prelude.{ℕ, ◌≡◌, ◌+◌, List, ◌++◌}
+use Rattle.std.specs.Prelude.{ℕ, ◌≡◌, ◌+◌, Bool, List, ◌++◌}
+use Rattle.cn_meetings.specs.Meeting.{Sight}
 use Rattle.cn_table.specs.TypeTable.{TypeTable}
 use Rattle.cn_tree_costs.specs.Least.{Load}
 use Rattle.cn_tree_costs.specs.Sizes.{sizes_of}
@@ -14,7 +15,8 @@ pub record AreBuilt (roots : List Roots) (b : ℕ) (sizes : List ℕ) (x : Load)
     (meetings : List NodeMeeting) : Type 0 where
   pub sizes_are : sizes_of s ≡ sizes
   pub nodes_are : nodes_in s ≡ x.nodes
-  pub are : (t : TypeTable) → HaveExamples t roots → AreNodes t b s meetings x.sum
+  pub are : (t : TypeTable) (allowed : Sight → Bool) → HaveExamples t allowed roots
+      → AreNodes t allowed b s meetings x.sum
 
 -- a node of n processes with these teams comes to this load within b steps, with these meetings of
 -- it and of the nodes below
@@ -22,7 +24,8 @@ pub record IsBuilt (roots : List Roots) (n b : ℕ) (x : Load) (s : Teams)
     (meetings : List NodeMeeting) : Type 0 where
   pub count : members s ≡ n
   pub nodes_are : 1 + nodes_in s ≡ x.nodes
-  pub are : (t : TypeTable) → HaveExamples t roots → AreTreeNodes t b s meetings x.sum
+  pub are : (t : TypeTable) (allowed : Sight → Bool) → HaveExamples t allowed roots
+      → AreTreeNodes t allowed b s meetings x.sum
 
 -- the meetings of the nodes below the teams stand behind the old ones
 abbrev pub AddsTeams : List Roots → ℕ → List ℕ → Load → Teams → List NodeMeeting

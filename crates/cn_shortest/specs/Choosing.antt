@@ -1,14 +1,13 @@
 -- Roots with the least load.
 use Rattle.std.specs.Prelude.{ℕ, ◌≡◌, ◌≤◌, List, Some, slice_get}
+use Rattle.cn_meetings.specs.Sights.{sight_of}
 use Rattle.cn_meetings.specs.Meeting.{Sight}
 use Rattle.cn_tree_costs.specs.Least.{Load, LoadTable, load_of_root}
 use Rattle.cn_tree_costs.specs.Sizes.{price}
 use Rattle.cn_shortest.specs.Loads.{root_with}
-use Rattle.cn_shortest.specs.Sights.{sight_of}
 use Rattle.cn_shortest.specs.declared.choosing.Choice.{Choice}
 use Rattle.cn_shortest.specs.declared.roots.Roots.{Roots}
-use Rattle.cn_shortest.specs.declared.sights.Sight as sights
-use Rattle.cn_shortest.specs.declared.sights.Sight.TheVariants.{Nothing, State}
+use Rattle.cn_shortest.specs.declared.roots.SightRoots.{SightRoots}
 use Rattle.cn_shortest.specs.declared.sizes.Sizes.{Sizes}
 
 -- the sizes give this load, within the steps
@@ -26,12 +25,13 @@ abbrev pub HasNone : LoadTable → ℕ → ℕ → Sight → List Sizes → Load
 HasNone best n b sight list x = (i : ℕ) (s : Sizes) → slice_get list i ≡ Some s
     → HasLoad best n b sight s x → ⊥
 
--- the sizes of the roots where the processes look in this way
-abbrev pub sizes_by : sights.Sight → Roots → List Sizes
-sizes_by State roots = roots.state.items
-sizes_by Nothing roots = roots.nothing.items
-
 -- one of the roots, with this load
-abbrev pub IsChoice : LoadTable → ℕ → ℕ → Roots → Load → Choice → Type 0
-IsChoice best n b roots x choice = HasLoad best n b (sight_of choice.sight) choice.sizes x
-    × (i : ℕ) × (slice_get (sizes_by choice.sight roots) i ≡ Some choice.sizes)
+pub record IsChoice (best : LoadTable) (n b : ℕ) (roots : Roots) (x : Load) (choice : Choice) : Type 0
+  where
+    pub has : HasLoad best n b (sight_of choice.sight) choice.sizes x
+    pub which : ℕ
+    pub of_sight : SightRoots
+    pub is_there : slice_get roots.by_sight.items which ≡ Some of_sight
+    pub sight_is : of_sight.sight ≡ choice.sight
+    pub place : ℕ
+    pub is_at : slice_get of_sight.sizes.items place ≡ Some choice.sizes

@@ -9,7 +9,7 @@ use Rattle.cn_tree_costs.specs.Cost.{IsLeastPlan, IsTreeFor, cost}
 use Rattle.cn_tree_plans.specs.Plan.{TreePlan, tree_of}
 use Rattle.cn_meetings.specs.Meeting.Sight.{Nothing, Response, State}
 use Rattle.cn_shortest.specs.Loads.{load_in}
-use Rattle.cn_shortest.specs.declared.least.Cost.{Cost}
+use Rattle.cn_tree_plans.specs.declared.plan.Cost.{Cost}
 use Rattle.cn_shortest.specs.declared.loads.Load.{Load}
 
 abbrev pub cost_of : Cost → plans.Cost

@@ -2,10 +2,11 @@ pub mod Built
 pub mod Choosing
 pub mod Costs
 pub mod Examples
+pub mod Greatest
 pub mod Loads
+pub mod Looks
 pub mod Nodes
 pub mod Ordering
 pub mod Roots
 pub mod Searches
-pub mod Sights
 pub mod Sizes

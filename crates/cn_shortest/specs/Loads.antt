@@ -1,7 +1,7 @@
 -- Loads by the number of processes and the bound on their steps.
-use Rattle.std.specs.Prelude.{ℕ, zero, suc, ◌≡◌, ◌+◌, ◌-◌, ◌*◌, ◌≤◌, ◌⊎◌, ◌++◌, All, Contains, IfSome, List, [], map, Option, Some, None, slice_get}
+use Rattle.std.specs.Prelude.{ℕ, zero, suc, ◌≡◌, ◌+◌, ◌-◌, ◌*◌, ◌≤◌, ◌⊎◌, All, Contains, IfSome, List, [], flat_map, map, Option, Some, None, slice_get}
+use Rattle.cn_meetings.specs.Sights.{sight_of}
 use Rattle.cn_meetings.specs.Meeting.{Sight}
-use Rattle.cn_meetings.specs.Meeting.Sight.{Nothing, State}
 use Rattle.cn_tree_costs.specs.Least as least
 use Rattle.cn_tree_costs.specs.Least.{IsAtMost, LoadTable, Root, load_of_root}
 use Rattle.cn_tree_costs.specs.Sizes.{price}
@@ -9,6 +9,7 @@ use Rattle.cn_shortest.specs.Sizes.{AreOf, sizes_of}
 use Rattle.cn_shortest.specs.declared.loads.Load.{Load}
 use Rattle.cn_shortest.specs.declared.loads.Row.{Row}
 use Rattle.cn_shortest.specs.declared.roots.Roots.{Roots}
+use Rattle.cn_shortest.specs.declared.roots.SightRoots.{SightRoots}
 use Rattle.cn_shortest.specs.declared.sizes.Sizes.{Sizes}
 
 abbrev pub load_of : Option Load → Option least.Load
@@ -50,9 +51,12 @@ root_with sight sizes = record { sight = sight; sizes = sizes_of sizes.counts }
 abbrev pub roots_with : Sight → List Sizes → List Root
 roots_with sight list = map (root_with sight) list
 
+abbrev pub roots_by : SightRoots → List Root
+roots_by roots = roots_with (sight_of roots.sight) roots.sizes.items
+
 -- the roots of one number of processes
 abbrev pub roots_in : Roots → List Root
-roots_in roots = roots_with Nothing roots.nothing.items ++ roots_with State roots.state.items
+roots_in roots = flat_map roots_by roots.by_sight.items
 
 abbrev pub roots_at : Option Roots → List Root
 roots_at None = []
@@ -86,5 +90,5 @@ pub record IsEntry (best : LoadTable) (n b : ℕ) (roots : List Root) (load : Op
     pub least_is : IsLeastOf best n b roots load
 
 abbrev pub AreAllOf : ℕ → Roots → Type 0
-AreAllOf n roots = All (λ s. AreOf n s.counts) roots.state.items
-    × All (λ s. AreOf n s.counts) roots.nothing.items
+AreAllOf n roots = (i : ℕ) (r : SightRoots) → slice_get roots.by_sight.items i ≡ Some r
+    → All (λ s. AreOf n s.counts) r.sizes.items

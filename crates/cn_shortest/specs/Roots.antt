@@ -3,18 +3,27 @@ use Rattle.std.specs.Prelude.{ℕ, zero, suc, ◌≡◌, ◌+◌, ◌<◌, ◌�
 use Rattle.cn_choice.specs.declared.limits.TheConstants.{MOST_PROCESSES}
 use Rattle.cn_divisions.specs.Divisions as finest
 use Rattle.cn_divisions.specs.declared.divisions.Division.{Division}
+use Rattle.cn_divisions.specs.declared.search.Divisions.{Divisions}
+use Rattle.cn_divisions.specs.declared.search.SightDivisions.{SightDivisions}
 use Rattle.cn_meetings.specs.Meeting.{Sight}
+use Rattle.cn_stocks.specs.Each.{EachAt}
 use Rattle.cn_table.specs.TypeTable.{TypeTable}
 use Rattle.cn_tree_costs.specs.Sizes.{HasSizes, IsDivision}
 use Rattle.cn_shortest.specs.Examples.{IsExample}
 use Rattle.cn_shortest.specs.Sizes.{AreCounts, AreMerged, AreOf, HasBoth, sizes_of}
+use Rattle.cn_shortest.specs.declared.roots.Roots.{Roots}
+use Rattle.cn_shortest.specs.declared.roots.SightRoots.{SightRoots}
 use Rattle.cn_shortest.specs.declared.sizes.Sizes.{Sizes}
 
 -- as many teams of each size
 abbrev pub AreSame : List ℕ → List ℕ → Type 0
 AreSame a b = (x : ℕ) → x ≤ MOST_PROCESSES → slice_index a x ≡ slice_index b x
 
--- one of the list has these counts
+-- one of the list has these very counts
+abbrev pub HasCounts : List Sizes → List ℕ → Type 0
+HasCounts list counts = (i : ℕ) × (s : Sizes) × (slice_get list i ≡ Some s) × (s.counts ≡ counts)
+
+-- one of the list has counts that are the same
 abbrev pub Has : List Sizes → List ℕ → Type 0
 Has list counts = (i : ℕ) × (s : Sizes) × (slice_get list i ≡ Some s) × AreSame s.counts counts
 
@@ -87,3 +96,14 @@ pub record AreSizesOf (n : ℕ) (divisions : List Division) (list : List Sizes) 
   pub found : (t : TypeTable) (sight : Sight) → AreWitnesses t sight n divisions
       → AreFound t sight n list
   pub all : HasAllWithin n MOST_PROCESSES divisions list
+
+-- the roots by the sight of these divisions
+pub record AreRootsBy (n : ℕ) (divisions : SightDivisions) (roots : SightRoots) : Type 0 where
+  pub sight_is : roots.sight ≡ divisions.sight
+  pub sizes : AreSizesOf n divisions.list.items roots.sizes.items
+
+-- the roots by each of the sights
+abbrev pub AreRootsFrom : ℕ → Divisions → Roots → Type 0
+AreRootsFrom n divisions roots = EachAt (λ i r. (d : SightDivisions)
+    → slice_get divisions.by_sight.items i ≡ Some d → AreRootsBy n d r)
+    (length divisions.by_sight.items) roots.by_sight.items

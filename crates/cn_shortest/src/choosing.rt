@@ -1,19 +1,19 @@
 //! The root of a least tree: the first one that has the least load.
 ghost use Rattle.std.specs.Prelude.{◌≡◌, ◌↔◌, ◌<◌, ◌≤◌, ◌+◌, ℕ, All, Contains, IfSome, IsTrue, length, None, Some, slice_get};
 ghost use Rattle.cn_choice.specs.declared.limits.TheConstants.{MOST_PROCESSES};
+ghost use Rattle.cn_meetings.specs.Sights.{sight_of};
 ghost use Rattle.cn_tree_costs.specs.Least.{Root};
 ghost use Rattle.cn_tree_costs.specs.Least.{load_of_root as load_at_root};
 ghost use Rattle.cn_tree_costs.specs.Sizes.{price as price_of};
 ghost use Rattle.cn_shortest.specs.Choosing.{HasNone, IsChoice, IsPlace};
 ghost use Rattle.cn_shortest.specs.Loads.{AreAllOf, IsLoadOf, IsSmallTable, load_of, roots_in, table_of};
-ghost use Rattle.cn_shortest.specs.Sights.{sight_of};
 ghost use Rattle.cn_shortest.specs.Sizes.{AreOf};
 ghost use Rattle.cn_shortest.specs.declared.loads.TheConstants.{MOST_STEPS};
 
 use crate::loads::{Load, MOST_STEPS, Row, load_of_root, price};
 use crate::roots::Roots;
-use crate::sights::Sight;
 use crate::sizes::Sizes;
+use cn_meetings::Sight;
 
 /// A root: how its processes look, and its teams.
 #[derive(Clone, Copy, Drop)]
@@ -54,8 +54,7 @@ fn place_of(rows: &[Row], budget: usize, sight: Sight, list: &[Sizes], load: Loa
     None
 }
 
-/// The first root that has the load: where nobody looks before where the processes read, then in the
-/// order of the list.
+/// The first root that has the load, in the order of the sights, then in that of the list.
 pub(crate) fn choose(rows: &[Row], budget: usize, roots: &Roots, load: Load) -> Choice
     requires few { length rows.now < MOST_PROCESSES }
     requires budget { budget ≤ MOST_STEPS }
@@ -66,19 +65,17 @@ pub(crate) fn choose(rows: &[Row], budget: usize, roots: &Roots, load: Load) -> 
     ensures { IsChoice (table_of rows.now) (length rows.now + 1) budget roots.now
         (record { nodes = load.nodes; sum = load.sum }) result }
 {
-    let nothing = roots.nothing.as_slice();
-    if let Some(place) = place_of(rows, budget, Sight::Nothing, nothing, load) {
-        return Choice {
-            sight: Sight::Nothing,
-            sizes: nothing[place],
-        };
-    }
-    let state = roots.state.as_slice();
-    if let Some(place) = place_of(rows, budget, Sight::State, state, load) {
-        return Choice {
-            sight: Sight::State,
-            sizes: state[place],
-        };
+    let all = roots.by_sight.as_slice();
+    for which in 0..all.len() {
+        let of_sight = &all[which];
+        let list = of_sight.sizes.as_slice();
+        if let Some(place) = place_of(rows, budget, of_sight.sight, list, load) {
+            let sizes = list[place];
+            return Choice {
+                sight: of_sight.sight,
+                sizes,
+            };
+        }
     }
     unreachable!()
 }

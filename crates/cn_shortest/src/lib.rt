@@ -4,17 +4,20 @@
 mod building;
 mod choosing;
 mod examples;
+mod greatest;
 mod least;
 mod loads;
+mod looks;
 mod meetings;
 mod ordering;
 mod plan;
 mod roots;
 mod search;
-mod sights;
 mod sizes;
 
-pub use least::{Cost, least_cost};
+pub use greatest::{greatest_cost, greatest_plan};
+pub use least::least_cost;
+pub use looks::Looks;
 pub use plan::shortest_plan;
 
 #[cfg(test)]

@@ -1,7 +1,7 @@
 //! The least load of objects and steps, for each number of processes and each bound on their steps.
 ghost use Rattle.std.specs.Prelude.{◌≡◌, ◌<◌, ◌≤◌, ◌+◌, ◌*◌, ◌++◌, ◌↔◌, ℕ, List, All, IfOk, IsTrue, length, None, replicate, slice_get, Some};
 ghost use Rattle.cn_choice.specs.declared.limits.TheConstants.{MOST_PROCESSES};
-ghost use Rattle.cn_shortest.specs.Sights.{sight_of};
+ghost use Rattle.cn_meetings.specs.Sights.{sight_of};
 ghost use Rattle.cn_stocks.specs.Each.{EachAt};
 ghost use Rattle.cn_tree_costs.specs.Least.{IsAtMost, IsLoadTable, LoadTable};
 ghost use Rattle.cn_tree_costs.specs.Least.{load_of_teams as load_of_sizes, load_of_root as load_at_root, plus as both};
@@ -13,9 +13,9 @@ ghost use Rattle.cn_shortest.specs.declared.loads.TheConstants.{MOST_STEPS};
 ghost use Rattle.cn_shortest.specs.declared.roots.Roots.{Roots};
 
 use crate::roots::Roots;
-use crate::sights::Sight;
 use crate::sizes::Sizes;
 use cn_choice::MOST_PROCESSES;
+use cn_meetings::Sight;
 use std::alloc::{AllocError, Global};
 
 /// The greatest bound on own steps that a plan tree needs.
@@ -106,8 +106,8 @@ pub(crate) fn price(sight: Sight) -> usize
     ensures { result ≡ price_of (sight_of sight) }
 {
     match sight {
-        Sight::State => 4,
         Sight::Nothing => 3,
+        Sight::State | Sight::Response(_) => 4,
     }
 }
 
@@ -158,9 +158,14 @@ fn entry(rows: &[Row], budget: usize, roots: &Roots) -> Option<Load>
     ensures { IsEntry (table_of rows.now) (length rows.now + 1) budget (roots_in roots.now)
         result }
 {
-    let nothing = least_of(rows, budget, Sight::Nothing, roots.nothing.as_slice());
-    let state = least_of(rows, budget, Sight::State, roots.state.as_slice());
-    less(nothing, state)
+    let all = roots.by_sight.as_slice();
+    let mut load = None;
+    for which in 0..all.len() {
+        let of_sight = &all[which];
+        let sizes = of_sight.sizes.as_slice();
+        load = less(load, least_of(rows, budget, of_sight.sight, sizes));
+    }
+    load
 }
 
 /// The loads of one process more than the rows have.

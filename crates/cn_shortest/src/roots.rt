@@ -1,10 +1,11 @@
 //! The roots that a plan tree may have: how the processes look, and the sizes of the teams.
-ghost use Rattle.std.specs.Prelude.{◌≡◌, ◌<◌, ◌≤◌, ◌+◌, ℕ, IfOk, IsTrue, Some, length, slice_get};
+ghost use Rattle.std.specs.Prelude.{◌≡◌, ◌<◌, ◌≤◌, ◌+◌, ◌↔◌, ℕ, IfOk, IsTrue, Some, length, slice_get};
 ghost use Rattle.cn_choice.specs.declared.limits.TheConstants.{MOST_PROCESSES};
 ghost use Rattle.cn_divisions.specs.Divisions.{IsDivision};
+ghost use Rattle.cn_divisions.specs.declared.search.SightDivisions.{SightDivisions};
 ghost use Rattle.cn_meetings.specs.Meeting.{Sight as MeetingSight};
 ghost use Rattle.cn_table.specs.TypeTable.{TypeTable};
-ghost use Rattle.cn_shortest.specs.Roots.{AreAll, AreFound, AreSizesOf, AreWitnesses, Has, HasAllMerged, HasAllWithin, HasMerged, HasSizesOf, HaveSizes, IsAdded, IsExtended, IsFound, StayFound};
+ghost use Rattle.cn_shortest.specs.Roots.{AreAll, AreFound, AreRootsBy, AreRootsFrom, AreSizesOf, AreWitnesses, Has, HasAllMerged, HasAllWithin, HasCounts, HasMerged, HasSizesOf, HaveSizes, IsAdded, IsExtended, IsFound, StayFound};
 ghost use Rattle.cn_shortest.specs.Examples.{IsExample};
 ghost use Rattle.cn_shortest.specs.Sizes.{AreCounts, AreOf};
 ghost use Rattle.cn_shortest.specs.declared.sizes.Sizes.{Sizes};
@@ -12,22 +13,28 @@ ghost use Rattle.cn_shortest.specs.declared.sizes.Sizes.{Sizes};
 use crate::examples::example_of;
 use crate::sizes::{Sizes, count, merge};
 use cn_choice::MOST_PROCESSES;
-use cn_divisions::{Division, Divisions};
+use cn_divisions::{Division, Divisions, SightDivisions};
+use cn_meetings::Sight;
 use cn_tree_costs::laws::sizes_are_kept;
 use std::alloc::{AllocError, Global};
 
-/// The sizes of all divisions of so many processes, by how they look.
+/// The sizes of all divisions of one number of processes, where all have one sight.
+#[derive(Drop)]
+pub(crate) struct SightRoots {
+    pub sight: Sight,
+    pub sizes: Vec<Sizes>,
+}
+
+/// The roots of one number of processes.
 #[derive(Drop)]
 pub(crate) struct Roots {
-    /// Where each process reads the state.
-    pub state: Vec<Sizes>,
-    /// Where no process looks at it.
-    pub nothing: Vec<Sizes>,
+    /// Those by each of the sights, in their order.
+    pub by_sight: Vec<SightRoots>,
 }
 
 /// Whether the list has these sizes.
 fn has(list: &[Sizes], sizes: &Sizes) -> bool
-    ensures { IsTrue result → Has list.now sizes.now.counts }
+    ensures { IsTrue result ↔ HasCounts list.now sizes.now.counts }
 {
     for place in 0..list.len() {
         if list[place].counts == sizes.counts {
@@ -150,17 +157,35 @@ fn all_sizes(alloc: Global, divisions: &[Division], n: u8) -> Result<Vec<Sizes>,
     Ok(list)
 }
 
+/// The roots of n processes by one sight.
+fn roots_of_sight(
+    alloc: Global,
+    divisions: &SightDivisions,
+    n: u8,
+) -> Result<SightRoots, AllocError>
+    requires n { n ≤ MOST_PROCESSES }
+    requires sizes { HaveSizes n divisions.now.list.items }
+    ensures { IfOk result (AreRootsBy n divisions.now) }
+{
+    let sizes = all_sizes(alloc, divisions.list.as_slice(), n)?;
+    Ok(SightRoots {
+        sight: divisions.sight,
+        sizes,
+    })
+}
+
 /// The roots of n processes.
 pub(crate) fn find_roots(alloc: Global, divisions: &Divisions, n: u8) -> Result<Roots, AllocError>
     requires n { n ≤ MOST_PROCESSES }
-    requires state { HaveSizes n divisions.now.state.items }
-    requires nothing { HaveSizes n divisions.now.nothing.items }
-    ensures state { IfOk result (λ roots. AreSizesOf n divisions.now.state.items
-        roots.state.items) }
-    ensures nothing { IfOk result (λ roots. AreSizesOf n divisions.now.nothing.items
-        roots.nothing.items) }
+    requires sizes { (i : ℕ) (d : SightDivisions)
+        → slice_get divisions.now.by_sight.items i ≡ Some d → HaveSizes n d.list.items }
+    ensures { IfOk result (AreRootsFrom n divisions.now) }
 {
-    let state = all_sizes(alloc, divisions.state.as_slice(), n)?;
-    let nothing = all_sizes(alloc, divisions.nothing.as_slice(), n)?;
-    Ok(Roots { state, nothing })
+    let from = divisions.by_sight.as_slice();
+    let mut by_sight = Vec::with_capacity(alloc, from.len())?;
+    for place in 0..from.len() {
+        let here = roots_of_sight(alloc, &from[place], n)?;
+        by_sight.push(here)?;
+    }
+    Ok(Roots { by_sight })
 }

@@ -18,6 +18,8 @@ use Rattle.cn_reasons.specs.declared.way.Way.{Way}
 use Rattle.cn_reasons.specs.declared.witness.Witness.{Witness}
 use Rattle.cn_sentences.specs.Lines.{alone_line, limit_line}
 use Rattle.cn_sentences.specs.Numbers.{number_words}
+use Rattle.cn_sentences.specs.Shortest.{shortest_line}
+use Rattle.cn_sentences.specs.declared.shortest.ShortestCost.{ShortestCost}
 use Rattle.cn_text.specs.Folded.{folded}
 use Rattle.cn_text.specs.Reasons.{each_number_line, example_line, no_list, single_line, start_text}
 use Rattle.cn_text.specs.Reasons.{states_line, ways_end, ways_words, witness_line}
@@ -145,6 +147,13 @@ abbrev pub pairs_line : TypeTable → Option Witness → List OperationPair → 
 pairs_line t witness pairs =
     if tells_pairs witness pairs then exceptions t pairs ++ (codes ".\n" ++ []) else []
 
+-- ---- how short protocols get
+
+-- what the shortest plan costs, if it is told, behind an empty line
+abbrev pub shortest_part : Option ShortestCost → List ℕ
+shortest_part None = []
+shortest_part (Some cost) = codes "\n" ++ (folded (shortest_line cost) ++ [])
+
 -- ---- all of it
 
 -- the text behind the number and the table
@@ -153,8 +162,8 @@ reasons_text e =
     lasting_part e.table e.lasting ++ (why e.table e.number e.witness ++ (codes "\n"
     ++ (folded (no_more e e.refutation ++ pairs_line e.table e.witness e.apart.items) ++ [])))
 
--- the text of an explanation
-unfoldable pub explanation_text : Explanation → List ℕ
-explanation_text e =
+-- the text of an explanation, and of how short protocols get
+unfoldable pub explanation_text : Explanation → Option ShortestCost → List ℕ
+explanation_text e shortest =
     start_text e.table Readable (number_words (codes " (the limit)") e.number)
-    ++ (reasons_text e ++ [])
+    ++ (reasons_text e ++ (shortest_part shortest ++ []))

@@ -3,7 +3,7 @@ ghost use Rattle.std.specs.Prelude.{◌≡◌, ◌++◌, codes, flat_map, string
 ghost use Rattle.cn_reasons.specs.Explanation.{IsExplanation};
 ghost use Rattle.cn_reasons.specs.Known.{IsKnownLasting, IsKnownPair, IsKnownRefutation, IsKnownWay, IsKnownWitness};
 ghost use Rattle.cn_sentences.specs.Numbers.{number_words};
-ghost use Rattle.cn_text.specs.Explanation.{example_part, exception, exceptions, explanation_text, in_full, lasting_part, lasting_text, no_more, not_refuted, pairs_line, reasons_text, refutation_text, rest_interferes, rule_sentence, rule_words, tells_pairs, tells_refutation, ways_part, why, witness_text, with_ways};
+ghost use Rattle.cn_text.specs.Explanation.{example_part, exception, exceptions, explanation_text, in_full, lasting_part, lasting_text, no_more, not_refuted, pairs_line, reasons_text, refutation_text, rest_interferes, rule_sentence, rule_words, shortest_part, tells_pairs, tells_refutation, ways_part, why, witness_text, with_ways};
 ghost use Rattle.cn_text.specs.Folded.{folded};
 ghost use Rattle.cn_text.specs.Reasons.{start_text};
 ghost use Rattle.cn_text.specs.declared.reasons.NumberKind.TheVariants.{Readable};
@@ -20,7 +20,7 @@ use cn_interference::{OperationPair, Rule};
 use cn_pieces::push_pieces;
 use cn_reasons::{Explanation, LastingWitness, Refutation, TypeNumber, Way, Witness};
 use cn_search::ConsensusNumber;
-use cn_sentences::{alone_line, number_words, push_limit_line};
+use cn_sentences::{ShortestCost, alone_line, number_words, push_limit_line, push_shortest};
 use cn_table::Table;
 use std::alloc::{AllocError, Global};
 
@@ -401,6 +401,24 @@ fn push_reasons(
     push_end(alloc, text, explanation)
 }
 
+/// What the shortest plan costs, if it is told.
+fn push_shortest_part(
+    alloc: Global,
+    text: &mut String,
+    shortest: Option<ShortestCost>,
+) -> Result<(), AllocError>
+    ensures { OnOk result (string_bytes text.new
+        ≡ string_bytes text.old ++ shortest_part shortest) }
+{
+    let Some(cost) = shortest else {
+        return Ok(());
+    };
+    let mut line = String::new(alloc);
+    push_shortest(&mut line, cost)?;
+    text.push_str("\n")?;
+    push_folded(alloc, text, line.as_str())
+}
+
 /// The text that tells people why the number of a type is what it is. It has
 ///
 /// - the number, and the cells of the table;
@@ -410,7 +428,8 @@ fn push_reasons(
 ///   that the explanation has, two runs by which a process cannot tell. With no limit and a rule, it
 ///   has the ways only if all are asked for;
 /// - the pairs of operations that do not interfere, if they are few and the witness is for three
-///   processes or more.
+///   processes or more;
+/// - what the shortest plan costs, if that is given.
 ///
 /// Each line ends with a line feed.
 ///
@@ -418,14 +437,20 @@ fn push_reasons(
 ///
 /// `AllocError` if memory runs out.
 #[tactic(auto, unfolding(crate::specs::Explanation::explanation_text))]
-pub fn explanation_of(alloc: Global, explanation: &Explanation) -> Result<String, AllocError>
+pub fn explanation_of(
+    alloc: Global,
+    explanation: &Explanation,
+    shortest: Option<ShortestCost>,
+) -> Result<String, AllocError>
     requires { IsExplanation explanation.now }
     // promise: explanation (explanation_text)
     // promise: why-without-a-limit
-    ensures { IfOk result (λ text. string_bytes text ≡ explanation_text explanation.now) }
+    // promise: shortest-cost-by-why (explanation_text: shortest_part)
+    ensures { IfOk result (λ text. string_bytes text ≡ explanation_text explanation.now shortest) }
 {
     let mut text = String::new(alloc);
     push_number(alloc, &mut text, explanation)?;
     push_reasons(alloc, &mut text, explanation)?;
+    push_shortest_part(alloc, &mut text, shortest)?;
     Ok(text)
 }

@@ -9,7 +9,7 @@
 //! ```text
 //! print!(rt; "{}", grid_of(alloc, &table)?)?;
 //! let explanation = Explanation::new(alloc, table, certificate, number, None, false)?;
-//! print!(rt; "{}", explanation_of(alloc, &explanation)?)?;
+//! print!(rt; "{}", explanation_of(alloc, &explanation, None)?)?;
 //! ```
 #![tactic(auto)]
 

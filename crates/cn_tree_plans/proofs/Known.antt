@@ -1,16 +1,18 @@
--- What a process judges has a response and a state of the type.
-use Rattle.std.proofs.Common.{◌≡◌, ℕ, zero, suc, ◌+◌, ◌<◌, Bool, true, false, List, [], ◌∷◌, length, get_or, subst, Some, All, if◌then◌else◌, slice_index_or}
+-- What a process judges has a response of the type, and can be seen by the sight of the node.
+use Rattle.std.proofs.Common.{◌≡◌, ℕ, zero, suc, ◌+◌, ◌<◌, List, [], ◌∷◌, length, get_or, subst, Some, All, slice_index_or, arith}
 use Rattle.std.specs.Prelude.{slice_index}
 use Rattle.std.specs.List.{AllByRecursion, slice_get}
 use Rattle.std.proofs.lemmas.List.Elements.{Contains-get_or}
 use Rattle.cn_table.specs.TypeTable.{IsRow, IsTypeTable, Row, TypeTable, no_row}
-use Rattle.cn_meetings.specs.Meeting.{Meeting, act, sees}
-use Rattle.cn_meetings.specs.Meeting.Sight.{Nothing, State}
+use Rattle.cn_meetings.specs.Meeting.{Meeting, Sight, act, sees}
+use Rattle.cn_meetings.specs.Meeting.Sight.{Nothing, Response, State}
+use Rattle.cn_meetings.specs.Sights.{sight_of}
 use Rattle.cn_meetings.specs.Witness.{Has}
 use Rattle.cn_proto.specs.Order.{after, answers}
 use Rattle.cn_proto.proofs.Reachable.{after_below}
 use Rattle.cn_trees.specs.Tree.{comes_to, nodes_in}
 use Rattle.cn_tree_plans.specs.Plan.{IsTreePlan, TreePlan, judged_at, no_meeting, tree_of}
+use Rattle.cn_tree_plans.specs.Sights.{seen_count}
 use Rattle.cn_tree_plans.specs.declared.judged.Judged.{Judged}
 
 -- an element of the list, or the default
@@ -48,13 +50,14 @@ module _ (t : TypeTable) (is : IsTypeTable t) where
       subst (λ (x : ℕ). x < length t.responses) same ((known (M.operation p)).gives s)
   answer_known M (p ∷ order) s (suc k) r h = answer_known M order (act t M p s).1 k r h
 
-  seen_known : (reads : Bool) (q : ℕ) → q < length t.states → sees t (if reads then State else Nothing) q < length t.states
-  seen_known true q l = l
-  seen_known false q l = is.states.some
+  pub seen_known : (sight : Sight) (q : ℕ) → q < length t.states → sees t sight q < seen_count t sight
+  seen_known State q l = l
+  seen_known Nothing q l = omega arith
+  seen_known (Response o) q l = (known o).gives q
 
 -- each judgement of a process of a node
 pub judged_known : (plan : TreePlan) → IsTreePlan plan → (v p : ℕ) → v < 1 + nodes_in plan.teams → Has (comes_to plan.teams v) p
-    → All (λ (j : Judged). (j.response.0 < length plan.table.responses) × (j.state.0 < length plan.table.states)) (judged_at plan v p)
+    → All (λ (j : Judged). (j.response.0 < length plan.table.responses) × (j.saw < seen_count plan.table (sight_of (slice_index_or plan.meetings v no_meeting).sight))) (judged_at plan v p)
 judged_known plan is v p lv comes = λ k d lt.
     let j : Judged = slice_index_or (judged_at plan v p) k d in
     let shown = (is.judged.exact v p j comes).0 (Contains-get_or (judged_at plan v p) k d lt) in
@@ -62,6 +65,7 @@ judged_known plan is v p lv comes = λ k d lt.
     let response : j.response.0 < length plan.table.responses =
     answer_known plan.table is.known M shown.0 M.start shown.1.answered.0 j.response.0 shown.1.answered.2 in
     let last = after_known plan.table is.known M shown.0 M.start (is.fits.starts v lv) in
-    let state : j.state.0 < length plan.table.states =
-    subst (λ (x : ℕ). x < length plan.table.states) shown.1.last_state (seen_known plan.table is.known (slice_index_or plan.meetings v no_meeting).reads (after (act plan.table M) M.start shown.0) last) in
-    (response, state)
+    let sight : Sight = sight_of (slice_index_or plan.meetings v no_meeting).sight in
+    let saw : j.saw < seen_count plan.table sight =
+    subst (λ (x : ℕ). x < seen_count plan.table sight) shown.1.last_state (seen_known plan.table is.known sight (after (act plan.table M) M.start shown.0) last) in
+    (response, saw)

@@ -1,18 +1,16 @@
 -- What the processes of a node of a tree are shown, by its teams.
-use Rattle.std.proofs.Common.{ℕ, ◌≡◌, ◌≢◌, ◌↔◌, inl, inr, ◌+◌, ◌-◌, ◌<◌, ◌≤◌, Bool, true, false, List, [], ◌∷◌, length, slice_index, slice_index_or, refl, sym, ◌∙◌, subst, arith, if◌then◌else◌, Contains}
+use Rattle.std.proofs.Common.{ℕ, ◌≡◌, ◌≢◌, ◌↔◌, inl, inr, ◌+◌, ◌-◌, ◌<◌, ◌≤◌, List, [], ◌∷◌, length, slice_index, slice_index_or, refl, sym, ◌∙◌, subst, arith, Contains}
 use Rattle.std.specs.Prelude.{All}
 use Rattle.std.proofs.lemmas.List.Elements.{All-cons, All-nil}
 use Rattle.cn_table.specs.TypeTable.{IsTypeTable, TypeTable}
 use Rattle.cn_choice.specs.declared.limits.TheConstants.{MOST_PROCESSES}
-use Rattle.cn_meetings.specs.Meeting.{sees}
-use Rattle.cn_meetings.specs.Meeting.Sight.{Nothing, State}
 use Rattle.cn_meetings.specs.Witness.{BeginsIn, Has, IsOrderOf, IsTeamWitness}
 use Rattle.cn_trees.specs.Tree.{Teams, comes_to, members, nodes_in, team_in}
 use Rattle.cn_trees.specs.Tree.Teams.{Alone, Last, Meet}
 use Rattle.cn_tree_costs.specs.Nodes.{Node, node_at}
 use Rattle.cn_tree_costs.specs.Sizes.{IsDivision, sizes_of}
 use Rattle.cn_tree_costs.proofs.Numbers.{sizes_sum}
-use Rattle.cn_tree_plans.specs.Listing.{AreEntries, IsNodeMeeting, SomeShowSame, TeamShows, seen, start_of}
+use Rattle.cn_tree_plans.specs.Listing.{AreEntries, IsNodeMeeting, SomeShowSame, TeamShows, start_of}
 use Rattle.cn_tree_plans.specs.Made.{IsShownTwice}
 use Rattle.cn_tree_plans.specs.Plan.{AreMeetings, IsShownBy, NodeMeeting, meeting_in, no_meeting, tree_with}
 use Rattle.cn_tree_plans.specs.Teams.{AreProper, AreSeveralBelow}
@@ -31,10 +29,6 @@ inhabited (Meet s r) h =
     let b = several_bound s h.1 in let a = h.0 in
     All-cons (λ m. 1 ≤ m) (members s) (sizes_of r) (omega arith) (inhabited r h.2)
 
-same_sight : (t : TypeTable) (reads : Bool) (q : ℕ) → sees t (if reads then State else Nothing) q ≡ seen reads q
-same_sight t true q = refl
-same_sight t false q = refl
-
 module _ (outcomes : Outcomes) (pairs : Pairs) (comes_is : ComesIs) (team_is : TeamIs) (t : TypeTable) (s : Teams) (meetings : List NodeMeeting)
     (known : IsTypeTable t) (proper : AreProper s) (few : members s ≤ MOST_PROCESSES) (fits : AreMeetings t s meetings) (v : ℕ) (lv : v < 1 + nodes_in s) where
   abbrev m : NodeMeeting
@@ -50,6 +44,7 @@ module _ (outcomes : Outcomes) (pairs : Pairs) (comes_is : ComesIs) (team_is : T
   is_meeting = record {
     table = known;
     start = fits.starts v lv;
+    sight = fits.sights v lv;
     few = omega (arith, fits.sizes v lv, within s v);
     operations = λ k l. fits.operations v k lv (omega (arith, fits.sizes v lv));
   }
@@ -70,10 +65,8 @@ module _ (outcomes : Outcomes) (pairs : Pairs) (comes_is : ComesIs) (team_is : T
       ↔ TeamShows t (slice_index_or meetings v no_meeting) (sizes_of (node_at s v).teams) (p - (node_at s v).first) g r saw
   shown_team p g r saw h lg =
       let both = shown_outcomes outcomes pairs comes_is t s meetings v g (start_of sizes g) (start_of sizes g + slice_index sizes g) (fits.sizes v lv) (omega arith)
-      (omega (arith, start_within sizes g lg, is_division.whole)) (in_team g lg) p r saw h in (
-        λ shown. (let out = both.0 shown in (out.0, out.1, sym (same_sight t m.reads out.0) ∙ out.2)),
-        λ shows. both.1 (shows.0, shows.1, same_sight t m.reads shows.0 ∙ shows.2),
-      )
+      (omega (arith, start_within sizes g lg, is_division.whole)) (in_team g lg) p r saw h in
+      (λ shown. both.0 shown, λ shows. both.1 shows)
 
   -- who is shown something comes to the node, and the team that comes first is one of it
   comes_of : (p g r saw : ℕ) → IsShownBy (tree_with t s meetings) v p g r saw → Has (comes_to s v) p
@@ -85,10 +78,10 @@ module _ (outcomes : Outcomes) (pairs : Pairs) (comes_is : ComesIs) (team_is : T
 
   pub entries_exact : (p : ℕ) (judged : List Judged) → Has (comes_to s v) p
       → AreEntries t (slice_index_or meetings v no_meeting) (sizes_of (node_at s v).teams) (p - (node_at s v).first) judged
-      → (y : Judged) → Contains judged y ↔ IsShownBy (tree_with t s meetings) v p y.team y.response.0 y.state.0
+      → (y : Judged) → Contains judged y ↔ IsShownBy (tree_with t s meetings) v p y.team y.response.0 y.saw
   entries_exact p judged h are y = (
-    λ c. (let e = (are.exact y).0 c in (shown_team p y.team y.response.0 y.state.0 h e.0).1 e.1),
-    λ shown. (let l = team_known y.team shown.0 shown.1.is_order shown.2 in (are.exact y).1 (l, (shown_team p y.team y.response.0 y.state.0 h l).0 shown)),
+    λ c. (let e = (are.exact y).0 c in (shown_team p y.team y.response.0 y.saw h e.0).1 e.1),
+    λ shown. (let l = team_known y.team shown.0 shown.1.is_order shown.2 in (are.exact y).1 (l, (shown_team p y.team y.response.0 y.saw h l).0 shown)),
   )
 
   pub shown_twice : (k : ℕ) → k < members (node_at s v).teams

@@ -7,8 +7,9 @@ use Rattle.std.proofs.lemmas.Bool.{cases_lt}
 use Rattle.std.proofs.lemmas.Bool.Decides.{nat_tests}
 use Rattle.std.proofs.lemmas.List.{get_or-map, get_or_append_left, length-map}
 use Rattle.std.proofs.Math.ListN.{get_or-eq_default}
-use Rattle.cn_meetings.specs.Meeting.{IsSightOf, Sight}
-use Rattle.cn_meetings.specs.Meeting.Sight.{Nothing, State}
+use Rattle.cn_meetings.specs.Meeting.{Sight}
+use Rattle.cn_meetings.specs.Meeting.Sight.{Nothing}
+use Rattle.cn_meetings.specs.Sights.{sight_of}
 use Rattle.cn_meetings.specs.Witness.{BeginsIn, Has, IsOrderOf}
 use Rattle.cn_trees.specs.Consensus.{steps_before}
 use Rattle.cn_trees.specs.Steps.{looks_at}
@@ -22,6 +23,7 @@ use Rattle.cn_tree_costs.proofs.Numbers.{sum_cons}
 pub use Rattle.cn_tree_costs.proofs.Numbers.{sizes_sum}
 use Rattle.cn_tree_plans.specs.Paths.{IsPlaceOf, place_of, places_of}
 use Rattle.cn_tree_plans.specs.Plan.{IsTreePlan, JudgedBefore, TreePlan, judged_at, judged_team, no_meeting, tree_of}
+use Rattle.cn_tree_plans.specs.Sights.{HasSights}
 use Rattle.cn_tree_plans.specs.declared.judged.Judged.{Judged}
 use Rattle.cn_tree_plans.specs.declared.place.Place.{Place as PlaceInMemory}
 use Rattle.cn_tree_plans.proofs.ListingLemmas.{entry}
@@ -132,16 +134,16 @@ find_in f (y ∷ xs) x e = go (f y) e (find_in f xs x)
 pub judged_inside : ComesIs → TeamIs → (plan : TreePlan) → IsTreePlan plan → (v p r q : ℕ) → Has (comes_to plan.teams v) p
     → judged_team (judged_at plan v p) r q < length (sizes_of (node_at plan.teams v).teams)
 judged_inside comes_is team_is plan is v p r q h =
-    go (find (λ x. (x.response.0 == r) && (x.state.0 == q)) (judged_at plan v p)) refl
+    go (find (λ x. (x.response.0 == r) && (x.saw == q)) (judged_at plan v p)) refl
   where
     first : (g : ℕ) (order : List ℕ) → IsOrderOf (comes_to plan.teams v) order → BeginsIn (team_in plan.teams v) g order → g < length (sizes_of (node_at plan.teams v).teams)
     first g [] order_is b = absurd b
     first g (x ∷ order) order_is b = omega (arith, b, team_inside comes_is team_is plan.teams v x (order_is.members 0 x refl))
 
-    go : (o : Option Judged) → find (λ x. (x.response.0 == r) && (x.state.0 == q)) (judged_at plan v p) ≡ o → option_map_or (λ x. x.team) o 0 < length (sizes_of (node_at plan.teams v).teams)
+    go : (o : Option Judged) → find (λ x. (x.response.0 == r) && (x.saw == q)) (judged_at plan v p) ≡ o → option_map_or (λ x. x.team) o 0 < length (sizes_of (node_at plan.teams v).teams)
     go None e = omega (arith, (proper_at plan.teams v is.proper (node_there plan.teams v p h)).several)
     go (Some x) e =
-        let shown = (is.judged.exact v p x h).0 (find_in (λ x. (x.response.0 == r) && (x.state.0 == q)) (judged_at plan v p) x e) in
+        let shown = (is.judged.exact v p x h).0 (find_in (λ x. (x.response.0 == r) && (x.saw == q)) (judged_at plan v p) x e) in
         first x.team shown.0 shown.1.is_order shown.2
 
 -- ---- steps
@@ -160,7 +162,7 @@ few_nodes plan is = omega (arith, several_bound plan.teams is.proper.below, is.p
 
 -- ---- plans judge right
 abbrev test : ℕ → ℕ → Judged → Bool
-test r q x = (x.response.0 == r) && (x.state.0 == q)
+test r q x = (x.response.0 == r) && (x.saw == q)
 
 test_here : (r q g : ℕ) → test r q (entry r q g) ≡ true
 test_here r q g =
@@ -173,7 +175,7 @@ test_before r q g y (inl l) = let a : nat_eq y.response.0 r ≡ false = grind (a
 test_before r q g y (inr h) =
     let e = h.0 in let l = h.1 in
     let a : nat_eq y.response.0 r ≡ true = grind (arith, nat_tests) in
-    let b : nat_eq y.state.0 q ≡ false = grind (arith, nat_tests) in
+    let b : nat_eq y.saw q ≡ false = grind (arith, nat_tests) in
     rw (a, b) refl
 
 find_is : (r q g : ℕ) (xs : List Judged) → AllPairs JudgedBefore xs → (i : ℕ) → i < length xs → get_or xs i (entry r q g) ≡ entry r q g → find (test r q) xs ≡ Some (entry r q g)
@@ -199,26 +201,23 @@ module _ (comes_is : ComesIs) (plan : TreePlan) (is : IsTreePlan plan) where
       let none : slice_index_or plan.meetings v no_meeting ≡ no_meeting = get_or-eq_default plan.meetings no_meeting (omega (arith, is.fits.count)) in
       rw none (omega (arith, is.known.states.some))
 
-  sight_known : (reads : Bool) → IsSightOf plan.table (if reads then State else Nothing)
-  sight_known true = tt
-  sight_known false = tt
-
   pub of_type : IsOfType (tree_of plan)
   of_type = record {
     starts = λ v. starts_known v (cases_lt v (1 + nodes_in plan.teams));
     operations = λ v p h. (
         let among = (comes_is plan.teams v p).0 h in let a = among.0 in let b = among.1 in
         is.fits.operations v (p - (node_at plan.teams v).first) (node_there plan.teams v p h) (omega arith));
-    sights = λ v p h. sight_known (slice_index_or plan.meetings v no_meeting).reads;
+    sights = λ v p h. is.fits.sights v (node_there plan.teams v p h);
   }
 
-  pub uniform : (allowed : Sight → Bool) → allowed State ≡ true → allowed Nothing ≡ true → IsUniform allowed (tree_of plan)
-  uniform allowed reads silent v = (
-    (if (slice_index_or plan.meetings v no_meeting).reads then State else Nothing),
-    go (slice_index_or plan.meetings v no_meeting).reads,
-    λ p h. refl,
-  )
+  pub uniform : (allowed : Sight → Bool) → HasSights allowed plan → IsUniform allowed (tree_of plan)
+  uniform allowed has v = go (cases_lt v (1 + nodes_in plan.teams))
     where
-      go : (b : Bool) → allowed (if b then State else Nothing) ≡ true
-      go true = reads
-      go false = silent
+      go : (v < 1 + nodes_in plan.teams) ⊎ (1 + nodes_in plan.teams ≤ v)
+          → (sight : Sight) × (allowed sight ≡ true) × ((p : ℕ) → Has (comes_to plan.teams v) p → ((tree_of plan).meeting v).sight p ≡ sight)
+      go (inl l) = (sight_of (slice_index_or plan.meetings v no_meeting).sight, has v l, λ p h. refl)
+      go (inr l) = (
+        sight_of (slice_index_or plan.meetings 0 no_meeting).sight,
+        has 0 (omega arith),
+        λ p h. absurd (let there = node_there plan.teams v p h in omega arith),
+      )

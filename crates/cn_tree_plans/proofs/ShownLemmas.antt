@@ -1,5 +1,5 @@
 -- What the teams of a node show its processes, team by team.
-use Rattle.std.proofs.Common.{ℕ, ◌≡◌, ◌↔◌, ◌⊎◌, inl, inr, ◌+◌, ◌-◌, ◌<◌, ◌≤◌, true, false, List, [], ◌∷◌, ◌++◌, drop, take, length, slice_index, slice_index_or, refl, sym, ap, ◌∙◌, subst, arith, append_assoc, length-append, length-drop}
+use Rattle.std.proofs.Common.{ℕ, ◌≡◌, ◌↔◌, ◌⊎◌, inl, inr, ◌+◌, ◌-◌, ◌<◌, ◌≤◌, List, [], ◌∷◌, ◌++◌, drop, take, length, slice_index, slice_index_or, refl, sym, ap, ◌∙◌, subst, arith, append_assoc, length-append, length-drop}
 use Rattle.std.specs.Prelude.{All}
 use Rattle.std.proofs.Math.Seq.{get_or-append_seam}
 use Rattle.std.proofs.lemmas.Bool.{cases_lt}
@@ -10,9 +10,12 @@ use Rattle.cn_choice.specs.Canonical.{Choice, FitsTable, raw_choice_of}
 use Rattle.cn_choice.specs.OutcomeSets.{InOutcomeSet}
 use Rattle.cn_choice.specs.declared.team.Team.TheVariants.{A}
 use Rattle.cn_choice.proofs.ChoiceLemmas.CanonicalForms.{IsRawChoice-choice}
+use Rattle.cn_meetings.specs.Meeting.{sees}
+use Rattle.cn_meetings.specs.Sights.{sight_of}
+use Rattle.cn_meetings.specs.declared.sight.Sight.{Sight}
 use Rattle.cn_outcomes.specs.PairSets.{Has}
 use Rattle.cn_proto.proofs.Reachable.{pair_known}
-use Rattle.cn_tree_plans.specs.Listing.{AreEntries, AreShown, IsNodeMeeting, Shows, TeamShows, seen, start_of}
+use Rattle.cn_tree_plans.specs.Listing.{AreEntries, AreShown, IsNodeMeeting, Shows, TeamShows, start_of}
 use Rattle.cn_tree_plans.specs.Made.{AreLists, AreNodeLists}
 use Rattle.cn_tree_plans.specs.Plan.{NodeMeeting, no_meeting}
 use Rattle.cn_tree_plans.specs.Turned.{role_of, turned}
@@ -51,21 +54,31 @@ module _ (t : TypeTable) (m : NodeMeeting) (is : IsNodeMeeting t m) (low high : 
   outcome_known k r q h = pair_known t is.table (raw_choice_of (turned m low high)) A (role_of low high k) (r, q) is.start h
 
 -- what a process sees of the pairs of a set
-pub shows_read : (t : TypeTable) (m : NodeMeeting) (low high k : ℕ) (set : List ℕ) → m.reads ≡ true
+pub shows_seen : (t : TypeTable) (m : NodeMeeting) (low high k : ℕ) (sight : Sight) (set seen : List ℕ) → sight ≡ m.sight
     → ((r q : ℕ) → Has set r q ↔ InOutcomeSet t (raw_choice_of (turned m low high)) A (role_of low high k) (r, q))
-    → (r saw : ℕ) → Has set r saw ↔ Shows t m low high k r saw
-shows_read t m low high k set reads same r saw = (
-  λ h. (saw, (same r saw).0 h, ap (λ b. seen b saw) reads),
-  λ h. (let e : h.0 ≡ saw = sym (ap (λ b. seen b h.0) reads) ∙ h.2 in subst (λ (q : ℕ). Has set r q) e ((same r h.0).1 h.1)),
-)
+    → ((r saw : ℕ) → Has seen r saw ↔ ((q : ℕ) × Has set r q × (sees t (sight_of sight) q ≡ saw)))
+    → (r saw : ℕ) → Has seen r saw ↔ Shows t m low high k r saw
+shows_seen t m low high k sight set seen e same by r saw =
+    let sees_same : (q : ℕ) → sees t (sight_of sight) q ≡ sees t (sight_of m.sight) q = λ q. ap (λ (s : Sight). sees t (sight_of s) q) e in (
+      λ h. (let p = (by r saw).0 h in (p.0, (same r p.0).0 p.1, sym (sees_same p.0) ∙ p.2)),
+      λ h. (by r saw).1 (h.0, (same r h.0).1 h.1, sees_same h.0 ∙ h.2),
+    )
 
-pub shows_not : (t : TypeTable) (m : NodeMeeting) (low high k : ℕ) (set blurred : List ℕ) → m.reads ≡ false
-    → ((r q : ℕ) → Has set r q ↔ InOutcomeSet t (raw_choice_of (turned m low high)) A (role_of low high k) (r, q))
-    → ((r saw : ℕ) → Has blurred r saw ↔ ((q : ℕ) × Has set r q × (0 ≡ saw)))
-    → (r saw : ℕ) → Has blurred r saw ↔ Shows t m low high k r saw
-shows_not t m low high k set blurred reads same blur r saw = (
-  λ h. (let p = (blur r saw).0 h in (p.0, (same r p.0).0 p.1, ap (λ b. seen b p.0) reads ∙ p.2)),
-  λ h. (blur r saw).1 (h.0, (same r h.0).1 h.1, sym (ap (λ b. seen b h.0) reads) ∙ h.2),
+-- ---- the pairs with one state more
+pub seen_next : (set old new : List ℕ) (f : ℕ → ℕ) (state saw : ℕ) → saw ≡ f state
+    → ((r x : ℕ) → Has old r x ↔ ((q : ℕ) × (q < state) × Has set r q × (f q ≡ x)))
+    → ((r x : ℕ) → Has new r x ↔ (Has old r x ⊎ (Has set r state × (x ≡ saw))))
+    → (r x : ℕ) → Has new r x ↔ ((q : ℕ) × (q < state + 1) × Has set r q × (f q ≡ x))
+seen_next set old new f state saw e before next r x = (
+  λ h. elim ((next r x).0 h) [
+    | inl o ↦ (let b = (before r x).0 o in let l = b.1 in (b.0, omega arith, b.2, b.3))
+    | inr n ↦ (state, omega arith, n.0, sym (n.1 ∙ e))
+  ],
+  λ h. elim (cases_lt h.0 state) [
+    | inl l ↦ (next r x).1 (inl ((before r x).1 (h.0, l, h.2, h.3)))
+    | inr l ↦ (let u = h.1 in let s : h.0 ≡ state = omega arith in
+        (next r x).1 (inr (subst (Has set r) s h.2, sym h.3 ∙ (ap f s ∙ sym e))))
+  ],
 )
 
 -- ---- one more set, list or node

@@ -8,7 +8,7 @@ use Rattle.cn_choice.specs.OutcomeSets.{InOutcomeSet}
 use Rattle.cn_choice.specs.declared.team.Team.TheVariants.{A}
 use Rattle.cn_meetings.specs.Choices.{choice_processes, choice_team}
 use Rattle.cn_meetings.specs.Meeting.{Sight, sees}
-use Rattle.cn_meetings.specs.Meeting.Sight.{Nothing, State}
+use Rattle.cn_meetings.specs.Sights.{sight_of}
 use Rattle.cn_meetings.specs.Witness.{Has}
 use Rattle.cn_trees.specs.Tree.{Teams, comes_to, members, team_in}
 use Rattle.cn_tree_costs.specs.Nodes.{IsAmong, Node, node_at}
@@ -121,7 +121,7 @@ module _ (outcomes : Outcomes) (pairs : Pairs) (comes_is : (s : Teams) (v p : �
   w = turned (slice_index_or meetings v no_meeting) low high
 
   abbrev sight : Sight
-  sight = if (slice_index_or meetings v no_meeting).reads then State else Nothing
+  sight = sight_of (slice_index_or meetings v no_meeting).sight
 
   module _ (size : length (slice_index_or meetings v no_meeting).operations ≡ members (node_at s v).teams) (le : low ≤ high) (ln : high ≤ length (slice_index_or meetings v no_meeting).operations)
       (is_team : (p : ℕ) → Has (comes_to s v) p → (team_in s v p ≡ g) ↔ ((low ≤ p - (node_at s v).first) × (p - (node_at s v).first < high))) where
@@ -176,7 +176,7 @@ module _ (outcomes : Outcomes) (pairs : Pairs) (comes_is : (s : Teams) (v p : �
     pub shown_outcomes : (p r saw : ℕ) → Has (comes_to s v) p
         → IsShownBy (tree_with t s meetings) v p g r saw
         ↔ ((q : ℕ) × InOutcomeSet t (raw_choice_of (turned (slice_index_or meetings v no_meeting) low high)) A (role_of low high (p - (node_at s v).first)) (r, q)
-        × (sees t (if (slice_index_or meetings v no_meeting).reads then State else Nothing) q ≡ saw))
+        × (sees t (sight_of (slice_index_or meetings v no_meeting).sight) q ≡ saw))
     shown_outcomes p r saw h = (
       λ shown. into_outcomes outcomes t w sight _ (role_of low high (p - x.first)) r saw
           (shown_carried t (looking sight w) (meeting_in s meetings v) (choice_processes w) (comes_to s v) (λ p. role_of low high (p - x.first)) there shown.0 p r saw shown.1)

@@ -3,6 +3,8 @@ pub mod Listing
 pub mod Made
 pub mod Paths
 pub mod Plan
+pub mod Sights
+pub mod SightsCode
 pub mod Teams
 pub mod TeamsCode
 pub mod Turned

@@ -1,5 +1,5 @@
 -- What the processes of a node are shown, team by team, and lists of it.
-use Rattle.std.specs.Prelude.{ℕ, zero, suc, ◌≡◌, ◌↔◌, ◌⊎◌, ◌+◌, ◌<◌, ◌≤◌, Bool, List, [], ◌∷◌, length, AllPairs, Contains, if◌then◌else◌, slice_index}
+use Rattle.std.specs.Prelude.{ℕ, zero, suc, ◌≡◌, ◌↔◌, ◌⊎◌, ◌+◌, ◌<◌, ◌≤◌, List, [], ◌∷◌, length, AllPairs, Contains, slice_index}
 use Rattle.std.specs.Prelude.{slice_index_or, Option, Some, None}
 use Rattle.cn_table.specs.TypeTable.{IsTypeTable, TypeTable}
 use Rattle.cn_choice.specs.declared.limits.TheConstants.{MOST_PROCESSES}
@@ -8,27 +8,26 @@ use Rattle.cn_choice.specs.OutcomeSets.{InOutcomeSet}
 use Rattle.cn_choice.specs.declared.team.Team.TheVariants.{A}
 use Rattle.std.specs.declared.vec.Vec.{Vec}
 use Rattle.cn_outcomes.specs.PairSets.{Has, HaveCommonPair}
+use Rattle.cn_meetings.specs.Meeting.{IsSightOf, sees}
+use Rattle.cn_meetings.specs.Sights.{sight_of}
 use Rattle.cn_tree_plans.specs.Plan.{JudgedBefore, NodeMeeting}
 use Rattle.cn_tree_plans.specs.Turned.{role_of, turned}
 use Rattle.cn_tree_plans.specs.declared.judged.Judged.{Judged}
 
--- a meeting of a node, of few processes, with a state and operations of the type
+-- a meeting of a node, of few processes, with a state, a sight and operations of the type
 pub record IsNodeMeeting (t : TypeTable) (m : NodeMeeting) : Type 0 where
   pub table : IsTypeTable t
   pub start : m.start < length t.states
+  pub sight : IsSightOf t (sight_of m.sight)
   pub few : length m.operations ≤ MOST_PROCESSES
   pub operations : (k : ℕ) → k < length m.operations
       → slice_index m.operations k < length t.operations
-
--- what a process sees of a state
-abbrev pub seen : Bool → ℕ → ℕ
-seen reads q = if reads then q else 0
 
 -- the team of the processes from low on and below high shows process k of the node this
 abbrev pub Shows : TypeTable → NodeMeeting → ℕ → ℕ → ℕ → ℕ → ℕ → Type 0
 Shows t m low high k r saw = (q : ℕ)
     × InOutcomeSet t (raw_choice_of (turned m low high)) A (role_of low high k) (r, q)
-    × (seen m.reads q ≡ saw)
+    × (sees t (sight_of m.sight) q ≡ saw)
 
 -- the first process of team g, among teams of these sizes
 abbrev pub start_of : List ℕ → ℕ → ℕ
@@ -53,19 +52,19 @@ abbrev pub SomeMeet : List (List ℕ) → Type 0
 SomeMeet sets = (g : ℕ) × (h : ℕ) × (g < h) × (h < length sets)
     × HaveCommonPair (slice_index_or sets g []) (slice_index_or sets h [])
 
--- an entry before this response and this state
+-- an entry before this response and this that is seen
 abbrev pub ComesBefore : Judged → ℕ → ℕ → Type 0
-ComesBefore x r q = (x.response.0 < r) ⊎ ((x.response.0 ≡ r) × (x.state.0 < q))
+ComesBefore x r saw = (x.response.0 < r) ⊎ ((x.response.0 ≡ r) × (x.saw < saw))
 
 -- the set of the team of the entry has its pair
 abbrev pub IsOf : List (List ℕ) → Judged → Type 0
 IsOf sets x = (x.team < length sets)
-    × Has (slice_index_or sets x.team []) x.response.0 x.state.0
+    × Has (slice_index_or sets x.team []) x.response.0 x.saw
 
--- the entries of these sets before a response and a state, each once and in order
-pub record AreListed (sets : List (List ℕ)) (states r q : ℕ) (judged : List Judged) : Type 0 where
+-- the entries of these sets before a response and what is seen, each once and in order
+pub record AreListed (sets : List (List ℕ)) (limit r saw : ℕ) (judged : List Judged) : Type 0 where
   pub exact : (x : Judged) → Contains judged x
-      ↔ (IsOf sets x × (x.state.0 < states) × ComesBefore x r q)
+      ↔ (IsOf sets x × (x.saw < limit) × ComesBefore x r saw)
   pub in_order : AllPairs JudgedBefore judged
 
 -- two teams show process k the same
@@ -83,7 +82,7 @@ pub record SomeShowSame (t : TypeTable) (m : NodeMeeting) (sizes : List ℕ) (k 
 pub record AreEntries (t : TypeTable) (m : NodeMeeting) (sizes : List ℕ) (k : ℕ)
     (judged : List Judged) : Type 0 where
   pub exact : (x : Judged) → Contains judged x
-      ↔ ((x.team < length sizes) × TeamShows t m sizes k x.team x.response.0 x.state.0)
+      ↔ ((x.team < length sizes) × TeamShows t m sizes k x.team x.response.0 x.saw)
   pub in_order : AllPairs JudgedBefore judged
   pub apart : ¬ SomeShowSame t m sizes k
 

@@ -1,24 +1,27 @@
 -- A plan tree as data: its teams, and for each node its meeting and its judgements.
-use Rattle.std.specs.Prelude.{◌≡◌, ◌+◌, ◌-◌, ◌<◌, ◌≤◌, ◌↔◌, ◌⊎◌, ◌==◌, ◌&&◌, ℕ, Bool, List, [], length}
-use Rattle.std.specs.Prelude.{AllPairs, Contains, if◌then◌else◌, slice_index, slice_index_or, false, find, refl}
+use Rattle.std.specs.Prelude.{◌≡◌, ◌+◌, ◌-◌, ◌<◌, ◌≤◌, ◌↔◌, ◌⊎◌, ◌==◌, ◌&&◌, ℕ, List, [], length}
+use Rattle.std.specs.Prelude.{AllPairs, Contains, slice_index, slice_index_or, find, refl}
 use Rattle.std.specs.Option.{option_map_or}
-use Rattle.std.specs.Coded.{Coded, code_by, coded×, coded_ℕ, coded_bool, coded_list}
+use Rattle.std.specs.Coded.{Coded, code_by, coded×, coded_ℕ, coded_list}
 use Rattle.cn_table.specs.TypeTable.{TypeTable, IsTypeTable, table_code}
 use Rattle.cn_choice.specs.declared.limits.TheConstants.{MOST_PROCESSES}
-use Rattle.cn_meetings.specs.Meeting.{Meeting}
-use Rattle.cn_meetings.specs.Meeting.Sight.{Nothing, State}
+use Rattle.cn_meetings.specs.Meeting.{IsSightOf, Meeting}
+use Rattle.cn_meetings.specs.Sights.{sight_of}
 use Rattle.cn_meetings.specs.Witness.{BeginsIn, Has, IsShown}
+use Rattle.cn_meetings.specs.declared.sight.Sight.{Sight}
+use Rattle.cn_meetings.specs.declared.sight.Sight.TheVariants.{Nothing}
 use Rattle.cn_trees.specs.Tree.{PlanTree, Teams, comes_to, members, nodes_in, team_in}
 use Rattle.cn_tree_costs.specs.Nodes.{node_at}
+use Rattle.cn_tree_plans.specs.SightsCode.{sight_code}
 use Rattle.cn_tree_plans.specs.Teams.{AreProper}
 use Rattle.cn_tree_plans.specs.TeamsCode.{teams_code}
 use Rattle.cn_tree_plans.specs.declared.judged.Judged.{Judged}
 
--- the state in which the object of a node starts, whether its processes read the state behind their
+-- the state in which the object of a node starts, how its processes look at it behind their
 -- operations, and the operation of each of them, from the first one on
 pub record NodeMeeting : Type 0 where
   pub start : ℕ
-  pub reads : Bool
+  pub sight : Sight
   pub operations : List ℕ
 
 -- a type, the teams of the root, and for each node its meeting and, for each of its processes from
@@ -30,14 +33,14 @@ pub record TreePlan : Type 0 where
   pub judged : List (List (List Judged))
 
 abbrev pub no_meeting : NodeMeeting
-no_meeting = record { start = 0; reads = false; operations = [] }
+no_meeting = record { start = 0; sight = Nothing; operations = [] }
 
 -- the meeting of processes with numbers from the first one on
 abbrev pub meeting_from : ℕ → NodeMeeting → Meeting
 meeting_from first m = record {
   start = m.start;
   operation = λ p. slice_index m.operations (p - first);
-  sight = λ p. if m.reads then State else Nothing;
+  sight = λ p. sight_of m.sight;
 }
 
 -- the meeting of node v of the tree with these teams at the root
@@ -58,10 +61,10 @@ abbrev pub judged_at : TreePlan → ℕ → ℕ → List Judged
 judged_at plan v p =
     slice_index_or (slice_index_or plan.judged v []) (p - (node_at plan.teams v).first) []
 
--- the team of the first entry with this response and this state, or team 0
+-- the team of the first entry with this response and what was seen, or team 0
 abbrev pub judged_team : List Judged → ℕ → ℕ → ℕ
-judged_team judged response state = option_map_or (λ x. x.team)
-    (find (λ x. (x.response.0 == response) && (x.state.0 == state)) judged) 0
+judged_team judged response saw = option_map_or (λ x. x.team)
+    (find (λ x. (x.response.0 == response) && (x.saw == saw)) judged) 0
 
 -- the plan tree of this plan
 abbrev pub tree_of : TreePlan → PlanTree
@@ -69,11 +72,13 @@ tree_of plan = record (tree_with plan.table plan.teams plan.meetings) {
   judge = λ v p response saw. judged_team (judged_at plan v p) response saw;
 }
 
--- each node has a meeting of its processes, with a state and operations of the type
+-- each node has a meeting of its processes, with a state, a sight and operations of the type
 pub record AreMeetings (t : TypeTable) (s : Teams) (meetings : List NodeMeeting) : Type 0 where
   pub count : length meetings ≡ 1 + nodes_in s
   pub starts : (v : ℕ) → v < 1 + nodes_in s
       → (slice_index_or meetings v no_meeting).start < length t.states
+  pub sights : (v : ℕ) → v < 1 + nodes_in s
+      → IsSightOf t (sight_of (slice_index_or meetings v no_meeting).sight)
   pub sizes : (v : ℕ) → v < 1 + nodes_in s
       → length (slice_index_or meetings v no_meeting).operations ≡ members (node_at s v).teams
   pub operations : (v k : ℕ) → v < 1 + nodes_in s → k < members (node_at s v).teams
@@ -86,20 +91,20 @@ IsShownBy T v p g response saw = (order : List ℕ)
     × IsShown T.table (T.meeting v) (comes_to T.teams v) order p response saw
     × BeginsIn (team_in T.teams v) g order
 
--- the order of judgements: by response, then by state
+-- the order of judgements: by response, then by what was seen
 abbrev pub JudgedBefore : Judged → Judged → Type 0
 JudgedBefore x y = (x.response.0 < y.response.0)
-    ⊎ ((x.response.0 ≡ y.response.0) × (x.state.0 < y.state.0))
+    ⊎ ((x.response.0 ≡ y.response.0) × (x.saw < y.saw))
 
--- each process of each node judges exactly what it is shown: each pair of a response and a state
--- once, in order, with the team that came first
+-- each process of each node judges exactly what it is shown: each pair of a response and what was
+-- seen once, in order, with the team that came first
 pub record AreJudgements (plan : TreePlan) : Type 0 where
   pub count : length plan.judged ≡ 1 + nodes_in plan.teams
   pub sizes : (v : ℕ) → v < 1 + nodes_in plan.teams
       → length (slice_index_or plan.judged v []) ≡ members (node_at plan.teams v).teams
   pub exact : (v p : ℕ) (x : Judged) → Has (comes_to plan.teams v) p
       → Contains (judged_at plan v p) x
-      ↔ IsShownBy (tree_of plan) v p x.team x.response.0 x.state.0
+      ↔ IsShownBy (tree_of plan) v p x.team x.response.0 x.saw
   pub in_order : (v p : ℕ) → Has (comes_to plan.teams v) p
       → AllPairs JudgedBefore (judged_at plan v p)
 
@@ -114,17 +119,17 @@ pub record IsTreePlan (plan : TreePlan) : Type 0 where
 -- a plan as plain lists: equality uses these
 abbrev pub node_meeting_code : Coded NodeMeeting
 node_meeting_code =
-    code_by (ℕ × (Bool × List ℕ)) (coded× coded_ℕ (coded× coded_bool (coded_list coded_ℕ)))
-    (λ m. (m.start, (m.reads, m.operations)))
-    (λ x. record { start = x.0; reads = x.1.0; operations = x.1.1 }) (λ _. refl)
+    code_by (ℕ × (Sight × List ℕ)) (coded× coded_ℕ (coded× sight_code (coded_list coded_ℕ)))
+    (λ m. (m.start, (m.sight, m.operations)))
+    (λ x. record { start = x.0; sight = x.1.0; operations = x.1.1 }) (λ _. refl)
 
 abbrev pub judged_code : Coded Judged
 judged_code =
     code_by (ℕ × (ℕ × ℕ)) (coded× coded_ℕ (coded× coded_ℕ coded_ℕ))
-    (λ j. (j.response.0, (j.state.0, j.team)))
+    (λ j. (j.response.0, (j.saw, j.team)))
     (λ x. record {
       response = record { 0 = x.0 };
-      state = record { 0 = x.1.0 };
+      saw = x.1.0;
       team = x.1.1;
     }) (λ _. refl)
 

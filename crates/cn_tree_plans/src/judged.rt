@@ -2,19 +2,20 @@
 ghost use Rattle.std.specs.Prelude.{◌≡◌, ◌<◌, ◌==◌, ◌&&◌, [], find, length, slice_index_or};
 ghost use Rattle.cn_tree_plans.specs.Plan.{judged_team};
 
-use cn_table::{Response, State};
+use cn_table::Response;
 use std::marker::Model;
 
-/// A process that got this response and then read this state judges that this team came first. The
-/// state is 0 where the process does not read.
+/// A process that got this response and then saw this judges that this team came first.
 #[derive(Clone, Copy, Debug, PartialEq, Eq)]
 pub struct Judged {
     pub response: Response,
-    pub state: State,
+    /// The number of the state that the process read, or of the response that it looked for; 0 where
+    /// it does not look.
+    pub saw: u8,
     pub team: u8,
 }
 
-/// What one process of a node judges, in order of response, then of state.
+/// What one process of a node judges, in order of response, then of what it saw.
 #[derive(Drop)]
 pub(crate) struct JudgedList {
     entries: Vec<Judged>,
@@ -42,22 +43,22 @@ impl JudgedList {
         self.entries.as_slice()
     }
 
-    /// The first entry with this response and this state.
-    fn entry(&self, response: Response, state: State) -> Option<Judged>
+    /// The first entry with this response and what was seen.
+    fn entry(&self, response: Response, saw: u8) -> Option<Judged>
         ensures { result
-            ≡ find (λ x. (x.response.0 == response.0) && (x.state.0 == state.0)) self.now }
+            ≡ find (λ x. (x.response.0 == response.0) && (x.saw == saw)) self.now }
     {
         self.entries
             .iter()
             .copied()
-            .find(|x| x.response.0 == response.0 && x.state.0 == state.0)
+            .find(|x| x.response.0 == response.0 && x.saw == saw)
     }
 
     /// Its team, or team 0.
-    pub(crate) fn team(&self, response: Response, state: State) -> u8
-        ensures { result ≡ judged_team self.now response.0 state.0 }
+    pub(crate) fn team(&self, response: Response, saw: u8) -> u8
+        ensures { result ≡ judged_team self.now response.0 saw }
     {
-        match self.entry(response, state) {
+        match self.entry(response, saw) {
             Some(entry) => entry.team,
             None => 0,
         }

@@ -1,5 +1,5 @@
 //! Plan trees in memory: the teams that meet at each node, the meeting there, and what each process
-//! judges by its response and by the state that it reads.
+//! judges by its response and by what it sees of the state behind it.
 //!
 //! [`TreePlan::new`] makes a [`TreePlan`] of a table, [`Teams`] and a [`Meeting`] for each node,
 //! and checks each node; a [`TreePlanFault`] says where a process cannot tell who came first:
@@ -8,8 +8,9 @@
 //! let plan = TreePlan::new(alloc, &table, teams, meetings)?;
 //! for place in plan.path(process) {
 //!     // Write the value to the register of place.team, do plan.operation(place.node, process),
-//!     // read the state if plan.reads(place.node), else take state 0.
-//!     let first = plan.judge(place.node, process, response, state);
+//!     // look by plan.sight(place.node): saw is the number of the state or of the response that
+//!     // it shows, or 0 where nobody looks.
+//!     let first = plan.judge(place.node, process, response, saw);
 //!     // Go on with the value in the register of that team.
 //! }
 //! ```
@@ -25,6 +26,7 @@ mod path;
 mod place;
 mod plan;
 mod shown;
+mod sights;
 mod teams;
 
 pub use fault::TreePlanFault;

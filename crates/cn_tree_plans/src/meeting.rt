@@ -1,6 +1,7 @@
 //! Meetings.
 ghost use Rattle.std.specs.Prelude.{◌≡◌, ◌<◌, ◌^◌, length, slice_index};
 
+use cn_meetings::Sight;
 use cn_table::{Operation, State};
 use std::marker::Model;
 
@@ -9,8 +10,8 @@ use std::marker::Model;
 pub struct Meeting {
     /// The state in which the object starts.
     pub start: State,
-    /// Whether the processes read the state behind their operations.
-    pub reads: bool,
+    /// How the processes look at the object behind their operations.
+    pub sight: Sight,
     /// The operation of each process of the node, from the first one on.
     pub operations: Vec<Operation>,
 }
@@ -23,12 +24,18 @@ impl Model for Meeting {
 
     ghost view = { λ m. record {
       start = m.start.0;
-      reads = m.reads;
+      sight = m.sight;
       operations = map (λ o. o.0) m.operations.items;
     } };
 }
 
 impl Meeting {
+    pub(crate) fn sight(&self) -> Sight
+        ensures { result ≡ self.now.sight }
+    {
+        self.sight
+    }
+
     /// The number of its processes.
     pub(crate) fn size(&self) -> u8
         requires { length self.now.operations < 2 ^ 8 }

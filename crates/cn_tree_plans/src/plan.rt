@@ -1,7 +1,8 @@
 //! Plan trees.
-ghost use Rattle.std.specs.Prelude.{◌≡◌, ◌+◌, ◌-◌, ◌<◌, ◌≤◌, ℕ, All, if◌then◌else◌, length, slice_index, slice_index_or};
+ghost use Rattle.std.specs.Prelude.{◌≡◌, ◌+◌, ◌-◌, ◌<◌, ◌≤◌, ℕ, All, if◌then◌else◌, length, slice_index, slice_index_or, IfOk};
 ghost use Rattle.cn_choice.specs.declared.limits.TheConstants.{MOST_PROCESSES};
-ghost use Rattle.cn_meetings.specs.Meeting.{act};
+ghost use Rattle.cn_meetings.specs.Meeting.{IsSightOf, act, see};
+ghost use Rattle.cn_meetings.specs.Sights.{sight_of};
 ghost use Rattle.cn_meetings.specs.Witness.{Has};
 ghost use Rattle.cn_trees.specs.Consensus.{steps_of};
 ghost use Rattle.cn_trees.specs.Steps.{looks_at};
@@ -12,15 +13,17 @@ ghost use Rattle.cn_tree_costs.specs.Sizes.{sizes_of};
 ghost use Rattle.cn_tree_plans.specs.Made.{IsMade};
 ghost use Rattle.cn_tree_plans.specs.Paths.{IsPlaceOf, places_of};
 ghost use Rattle.cn_tree_plans.specs.Plan.{AreMeetings, IsTreePlan, judged_at, meeting_in, no_meeting, tree_of};
+ghost use Rattle.cn_tree_plans.specs.Sights.{seen_count};
 ghost use Rattle.cn_tree_plans.specs.Teams.{AreProper, teams_of};
 
 use crate::judged::{JudgedList, NodeJudged};
 use crate::making::all_judged;
 use crate::path::{Path, all_paths};
-use crate::{Judged, Meeting, Place, Teams, TreePlanFault};
+use crate::{Judged, Meeting, Place, Teams, TreePlanFault, sights};
+use cn_meetings::Sight;
 use cn_table::{Operation, Response, State, Table};
 use cn_tree_costs::laws::nodes_are_trees;
-use std::alloc::Global;
+use std::alloc::{AllocError, Global};
 use std::marker::Model;
 
 /// What a plan tree costs.
@@ -206,6 +209,7 @@ impl TreePlan {
         requires { node < nodes_of (tree_of self.now) }
         ensures value { result.now ≡ slice_index_or self.now.meetings node no_meeting }
         ensures start { result.now.start < length self.now.table.states }
+        ensures sight { IsSightOf self.now.table (sight_of result.now.sight) }
         ensures size { length result.now.operations ≡ members (node_at self.now.teams node).teams }
         ensures operations { (k : ℕ) → k < members (node_at self.now.teams node).teams
             → slice_index result.now.operations k < length self.now.table.operations }
@@ -243,6 +247,20 @@ impl TreePlan {
         ensures range { (2 ≤ result) × (result ≤ MOST_PROCESSES) }
     {
         self.at(node).count()
+    }
+
+    /// The sizes of the teams of a node.
+    ///
+    /// # Errors
+    ///
+    /// `AllocError` if memory runs out.
+    pub fn sizes(&self, alloc: Global, node: u8) -> Result<Vec<u8>, AllocError>
+        requires { node < nodes_of (tree_of self.now) }
+        // promise: parts-of-a-tree-plan
+        ensures { IfOk result (λ sizes. sizes.items
+            ≡ sizes_of (node_at self.now.teams node).teams) }
+    {
+        self.at(node).sizes(alloc)
     }
 
     /// The team of a process at a node to which it comes.
@@ -289,16 +307,41 @@ impl TreePlan {
         self.table.apply(self.operation(node, process), state)
     }
 
-    /// Whether the processes of a node read the state behind their operations.
-    pub fn reads(&self, node: u8) -> bool
+    /// How the processes of a node look at the object behind their operations.
+    pub fn sight(&self, node: u8) -> Sight
+        requires { node < nodes_of (tree_of self.now) }
+        // promise: parts-of-a-tree-plan
+        ensures value { result ≡ (slice_index_or self.now.meetings node no_meeting).sight }
+        // promise: parts-of-a-tree-plan
+        ensures known { IsSightOf self.now.table (sight_of result) }
+    {
+        self.meeting(node).sight()
+    }
+
+    /// Whether the processes of a node take a step to look at the object.
+    pub fn looks(&self, node: u8) -> bool
         requires { node < nodes_of (tree_of self.now) }
         // promise: parts-of-a-tree-plan
         ensures { (p : ℕ) → looks_at (tree_of self.now) node p ≡ result }
     {
-        self.meetings[usize::from(node)].reads
+        self.sight(node).looks()
     }
 
-    /// What a process judges at a node to which it comes, in order of response, then of state.
+    /// What the processes of a node see of this state of the object: its number, or the number of the
+    /// response that they look for, or 0 where they do not look.
+    // promise: parts-of-a-tree-plan
+    pub fn see(&self, node: u8, state: State) -> u8
+        requires node { node < nodes_of (tree_of self.now) }
+        requires state { state.0 < length self.now.table.states }
+        ensures value { (p : ℕ) → see self.now.table ((tree_of self.now).meeting node) p state.0
+            ≡ result }
+        ensures range { result < seen_count self.now.table
+            (sight_of (slice_index_or self.now.meetings node no_meeting).sight) }
+    {
+        sights::see(&self.table, self.sight(node), state)
+    }
+
+    /// What a process judges at a node to which it comes, in order of response, then of what it saw.
     pub fn judged(&self, node: u8, process: u8) -> &[Judged]
         requires { Has (comes_to self.now.teams node) process }
         // promise: judgements-of-a-tree-plan
@@ -316,21 +359,21 @@ impl TreePlan {
         self.judged[usize::from(node)].list(place)
     }
 
-    /// The team that a process judges to have come first at a node, by its response and by the
-    /// state that it read: state 0 where it does not read. Team 0 if nothing shows it these.
-    pub fn judge(&self, node: u8, process: u8, response: Response, state: State) -> u8
+    /// The team that a process judges to have come first at a node, by its response and by what it
+    /// saw: see [`see`](TreePlan::see). Team 0 if nothing shows it these.
+    pub fn judge(&self, node: u8, process: u8, response: Response, saw: u8) -> u8
         requires { Has (comes_to self.now.teams node) process }
         // promise: judgements-of-a-tree-plan
-        ensures team { result ≡ (tree_of self.now).judge node process response.0 state.0 }
+        ensures team { result ≡ (tree_of self.now).judge node process response.0 saw }
         // promise: judgements-of-a-tree-plan
         ensures range { result < length (sizes_of (node_at self.now.teams node).teams) }
     {
         nodes_are_trees();
         self.is_plan();
-        self.list(node, process).team(response, state)
+        self.list(node, process).team(response, saw)
     }
 
-    /// The own steps of a process: three at each node of its path, or four where it reads.
+    /// The own steps of a process: three at each node of its path, or four where it looks.
     pub fn steps(&self, process: u8) -> u8
         requires { process < processes_of (tree_of self.now) }
         // promise: cost-of-a-tree-plan
@@ -352,7 +395,7 @@ impl TreePlan {
         ensures number { (p : ℕ) → (if looks_at (tree_of self.now) node p then 4 else 3) ≡ result }
         ensures range { (3 ≤ result) × (result ≤ 4) }
     {
-        if self.reads(node) { 4 } else { 3 }
+        if self.looks(node) { 4 } else { 3 }
     }
 
     /// What the plan costs.

@@ -1,14 +1,19 @@
 //! What the processes of a node are shown.
-ghost use Rattle.std.specs.Prelude.{◌≡◌, ◌↔◌, ◌+◌, ◌-◌, ◌++◌, ◌<◌, ◌≤◌, ℕ, [], drop, length, slice_index_or, take, IfNone, IfOk, IfSome, IsTrue, OnOk};
+ghost use Rattle.std.specs.Prelude.{◌≡◌, ◌↔◌, ◌⊎◌, ◌+◌, ◌-◌, ◌++◌, ◌<◌, ◌≤◌, ℕ, [], drop, length, slice_index_or, take, IfNone, IfOk, IfSome, IsTrue, OnOk};
+ghost use Rattle.cn_table.specs.declared.limits.TheConstants.{MOST_RESPONSES, MOST_STATES};
 ghost use Rattle.cn_choice.specs.declared.limits.TheConstants.{MOST_PROCESSES};
+ghost use Rattle.cn_meetings.specs.Meeting.{IsSightOf, sees};
+ghost use Rattle.cn_meetings.specs.Sights.{sight_of};
 ghost use Rattle.cn_outcomes.specs.PairSets.{Has, HaveCommonPair};
 ghost use Rattle.cn_tree_costs.specs.Sizes.{IsDivision};
 ghost use Rattle.cn_tree_plans.specs.Listing.{AreListed, AreShown, IsJudgedBy, IsNodeMeeting, Shows, SomeMeet};
 ghost use Rattle.cn_tree_plans.specs.Turned.{role_of, turned};
 
+use crate::sights::{see, seen_count};
 use crate::{Judged, Meeting};
 use arrayvec::ArrayVec;
 use cn_choice::{Choice, MOST_PROCESSES, Team};
+use cn_meetings::Sight;
 use cn_outcomes::{OutcomeSet, outcomes};
 use cn_table::{Response, State, Table};
 use std::alloc::{AllocError, Global};
@@ -61,31 +66,34 @@ fn role_of(low: u8, high: u8, k: u8) -> u8
     }
 }
 
-/// Whether the set, with states below this number, has a pair with the response.
-fn has_response(set: &OutcomeSet, response: u8, states: u8) -> bool
-    requires { (q : ℕ) → Has set.now response q → q < states }
-    ensures { IsTrue result ↔ ((q : ℕ) × Has set.now response q) }
+/// Adds the pairs of the set with this state, and with what is seen in place of it.
+fn add_seen(seen: &mut OutcomeSet, set: &OutcomeSet, state: u8, saw: u8, responses: u8)
+    requires responses { responses ≤ MOST_RESPONSES }
+    requires saw { saw < MOST_STATES }
+    requires known { (r : ℕ) → Has set.now r state → r < responses }
+    ensures { (r x : ℕ) → Has seen.new r x
+        ↔ (Has seen.old r x ⊎ (Has set.now r state × (x ≡ saw))) }
 {
-    for state in 0..states {
+    for response in 0..responses {
         if set.has(Response(response), State(state)) {
-            return true;
+            seen.add(response, saw);
         }
     }
-    false
 }
 
-/// The pairs of the set as a process sees them that does not read: with state 0.
-fn without_states(table: &Table, set: &OutcomeSet) -> OutcomeSet
-    requires { (r q : ℕ) → Has set.now r q
+/// The pairs of the set as a process sees them by the sight: what is seen in place of each state.
+fn seen_by(table: &Table, sight: Sight, set: &OutcomeSet) -> OutcomeSet
+    requires sight { IsSightOf table.now (sight_of sight) }
+    requires known { (r q : ℕ) → Has set.now r q
         → (r < length table.now.responses) × (q < length table.now.states) }
-    ensures { (r saw : ℕ) → Has result r saw ↔ ((q : ℕ) × Has set.now r q × (0 ≡ saw)) }
+    ensures { (r saw : ℕ) → Has result r saw
+        ↔ ((q : ℕ) × Has set.now r q × (sees table.now (sight_of sight) q ≡ saw)) }
 {
-    let (responses, states) = (table.responses(), table.states());
+    let responses = table.responses();
     let mut seen = OutcomeSet::none();
-    for response in 0..responses {
-        if has_response(set, response, states) {
-            seen.add(response, 0);
-        }
+    for state in 0..table.states() {
+        let saw = see(table, sight, State(state));
+        add_seen(&mut seen, set, state, saw, responses);
     }
     seen
 }
@@ -100,11 +108,7 @@ fn shown_by(table: &Table, meeting: &Meeting, low: u8, high: u8, k: u8) -> Outco
 {
     let choice = turned(meeting, low, high);
     let set = outcomes(table, &choice, Team::A, role_of(low, high, k));
-    if meeting.reads {
-        set
-    } else {
-        without_states(table, &set)
-    }
+    seen_by(table, meeting.sight(), &set)
 }
 
 /// What each team shows process k of the node.
@@ -157,14 +161,14 @@ fn some_meet(sets: &[OutcomeSet]) -> bool
 }
 
 /// The first set that has the pair.
-fn team_of(sets: &[OutcomeSet], response: Response, state: State) -> Option<usize>
+fn team_of(sets: &[OutcomeSet], response: Response, saw: u8) -> Option<usize>
     ensures none { IfNone result ((g : ℕ) → g < length sets.now
-        → ¬ Has (slice_index_or sets.now g []) response.0 state.0) }
+        → ¬ Has (slice_index_or sets.now g []) response.0 saw) }
     ensures some { IfSome result (λ g. (g < length sets.now)
-        × Has (slice_index_or sets.now g []) response.0 state.0) }
+        × Has (slice_index_or sets.now g []) response.0 saw) }
 {
     for g in 0..sets.len() {
-        if sets[g].has(response, state) {
+        if sets[g].has(response, State(saw)) {
             return Some(g);
         }
     }
@@ -176,18 +180,18 @@ fn push_entries(
     judged: &mut Vec<Judged>,
     sets: &[OutcomeSet],
     response: u8,
-    states: u8,
+    limit: u8,
 ) -> Result<(), AllocError>
     requires few { length sets.now ≤ MOST_PROCESSES }
     requires apart { ¬ SomeMeet sets.now }
-    requires listed { AreListed sets.now states response 0 judged.old.items }
-    ensures { OnOk result (AreListed sets.now states (response + 1) 0 judged.new.items) }
+    requires listed { AreListed sets.now limit response 0 judged.old.items }
+    ensures { OnOk result (AreListed sets.now limit (response + 1) 0 judged.new.items) }
 {
-    for state in 0..states {
-        match team_of(sets, Response(response), State(state)) {
+    for saw in 0..limit {
+        match team_of(sets, Response(response), saw) {
             Some(team) => judged.push(Judged {
                 response: Response(response),
-                state: State(state),
+                saw,
                 team: team as u8,
             })?,
             None => {}
@@ -196,20 +200,20 @@ fn push_entries(
     Ok(())
 }
 
-/// The entries of the sets with these numbers of responses and states.
+/// The entries of the sets with responses below a number and what is seen below another.
 fn entries(
     alloc: Global,
     sets: &[OutcomeSet],
     responses: u8,
-    states: u8,
+    limit: u8,
 ) -> Result<Vec<Judged>, AllocError>
     requires few { length sets.now ≤ MOST_PROCESSES }
     requires apart { ¬ SomeMeet sets.now }
-    ensures { IfOk result (λ judged. AreListed sets.now states responses 0 judged.items) }
+    ensures { IfOk result (λ judged. AreListed sets.now limit responses 0 judged.items) }
 {
     let mut judged = Vec::new(alloc);
     for response in 0..responses {
-        push_entries(&mut judged, sets, response, states)?;
+        push_entries(&mut judged, sets, response, limit)?;
     }
     Ok(judged)
 }
@@ -232,6 +236,7 @@ pub(crate) fn entries_of(
     if some_meet(&sets) {
         return Ok(None);
     }
-    let judged = entries(alloc, &sets, table.responses(), table.states())?;
+    let limit = seen_count(table, meeting.sight());
+    let judged = entries(alloc, &sets, table.responses(), limit)?;
     Ok(Some(judged))
 }

@@ -1,6 +1,7 @@
 //! The teams of a node.
 ghost use Rattle.std.specs.Prelude.{◌≡◌, ◌↔◌, ◌+◌, ◌++◌, ◌≤◌, ◌<◌, ◌^◌, length, IfNone, IfOk, IfSome, IsTrue, OnOk};
 ghost use Rattle.cn_trees.specs.Tree.{members, nodes_in};
+ghost use Rattle.cn_trees.specs.Tree.Teams.{Alone, Meet};
 ghost use Rattle.cn_tree_costs.specs.Nodes.{node_at, node_below};
 ghost use Rattle.cn_tree_costs.specs.Sizes.{sizes_of};
 ghost use Rattle.cn_tree_plans.specs.Teams.{AreProper, AreSeveralBelow, teams_of};
@@ -21,6 +22,32 @@ pub enum Teams {
 }
 
 impl Teams {
+    /// A team of one process before these teams.
+    ///
+    /// # Errors
+    ///
+    /// `AllocError` if memory runs out.
+    pub fn alone(alloc: Global, further: Teams) -> Result<Teams, AllocError>
+        // promise: tree-plans-are-made
+        ensures { IfOk result (λ teams. teams_of teams ≡ Alone (teams_of further)) }
+    {
+        Ok(Teams::Alone(Box::new(alloc, further)?))
+    }
+
+    /// A team of the processes that have met at a node of the first teams before the further ones.
+    ///
+    /// # Errors
+    ///
+    /// `AllocError` if memory runs out.
+    pub fn meet(alloc: Global, team: Teams, further: Teams) -> Result<Teams, AllocError>
+        // promise: tree-plans-are-made
+        ensures { IfOk result (λ teams. teams_of teams ≡ Meet (teams_of team) (teams_of further)) }
+    {
+        let team = Box::new(alloc, team)?;
+        let further = Box::new(alloc, further)?;
+        Ok(Teams::Meet(team, further))
+    }
+
     /// How many processes there are.
     pub fn members(&self) -> u8
         requires { members (teams_of self.now) < 2 ^ 8 }

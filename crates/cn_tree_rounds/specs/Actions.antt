@@ -1,9 +1,11 @@
 -- The actions of the steps of a schedule, one by one.
-use Rattle.std.specs.Prelude.{ℕ, ◌+◌, ◌<◌, All, IfSome, List, [], ◌∷◌, length, nat_lt}
+use Rattle.std.specs.Prelude.{ℕ, ◌+◌, ◌<◌, All, IfSome, List, length, map, nat_lt, slice_index, take}
 use Rattle.std.specs.Prelude.{if◌then◌else◌, Option, Some, None, option_map}
-use Rattle.cn_table.specs.TypeTable.{TypeTable}
-use Rattle.cn_meetings.specs.Meeting.{act, see}
-use Rattle.cn_trees.specs.Steps.{Local, Stage, World, after_step, first_world, looks_at}
+use Rattle.std.specs.List.{range_with_len}
+use Rattle.cn_table.specs.TypeTable.{TypeTable, transition}
+use Rattle.cn_meetings.specs.Meeting.{Sight, act, see}
+use Rattle.cn_meetings.specs.Meeting.Sight.{Nothing, Response, State}
+use Rattle.cn_trees.specs.Steps.{Local, Stage, World, after_schedule, first_world, looks_at}
 use Rattle.cn_trees.specs.Steps.Local.{Active, Decided}
 use Rattle.cn_trees.specs.Steps.Stage.{Write, Apply, Look, Take}
 use Rattle.cn_trees.specs.Tree.{Place, PlanTree, path_of, place_of}
@@ -25,9 +27,23 @@ judged_behind T node p response =
 abbrev pub taking : ℕ → ℕ → ℕ → ℕ → ℕ → Action
 taking places i node team y = if nat_lt (i + 1) places then acts.Take node team y else acts.Decide y
 
+-- a process with this sight looks at the object of a node in this state, and judges that this team
+-- came first: it reads the state, or does a further operation with this response
+abbrev pub look_by : TypeTable → ℕ → ℕ → ℕ → Sight → Action
+look_by t node state team State = acts.Read node (record { 0 = state }) team
+look_by t node state team Nothing = acts.Read node (record { 0 = state }) team
+look_by t node state team (Response o) =
+    acts.Look node (record { 0 = o }) (record { 0 = (transition t o state).0 }) team
+
+-- so process p looks at a node, and judges by the response to its operation and by what it sees
+abbrev pub looking : PlanTree → ℕ → ℕ → ℕ → ℕ → Action
+looking T node p response state =
+    look_by T.table node state
+    (T.judge node p response (see T.table (T.meeting node) p state)) ((T.meeting node).sight p)
+
 -- the action of process p at place i of its path with this value, where the object of the node is
 -- in this state and the registers of its teams hold this: it writes its value to the register of
--- its team; it applies its operation, with this response; it reads the state, and judges by the
+-- its team; it applies its operation, with this response; it looks at the object, and judges by the
 -- response and by what it sees which team came first; it takes the value in the register of this
 -- team
 abbrev pub action_at : PlanTree → ℕ → ℕ → ℕ → (ℕ → Option ℕ) → ℕ → Stage → Place → Option Action
@@ -37,8 +53,7 @@ action_at T p i state registers x Apply here =
     Some (acts.Apply here.node (record { 0 = (T.meeting here.node).operation p })
     (record { 0 = response }) (judged_behind T here.node p response))
 action_at T p i state registers x (Look response) here =
-    Some (acts.Read here.node (record { 0 = state })
-    (T.judge here.node p response (see T.table (T.meeting here.node) p state)))
+    Some (looking T here.node p response state)
 action_at T p i state registers x (Take response saw) here =
     let team = T.judge here.node p response saw in
     option_map (taking (length (path_of T p)) i here.node team) (registers team)
@@ -56,11 +71,16 @@ action_of T p w = action_from T p w (w.locals p)
 
 -- ---- a schedule
 
--- the action of each step of a schedule, from a world on
+-- step i of a schedule, from a world on: the process that the schedule names there, and its action
+-- in the world after the i steps before
+abbrev pub record_at : PlanTree → List ℕ → World ℕ → ℕ → StepRecord
+record_at T schedule w i =
+    let p = slice_index schedule i in
+    record { process = p; action = action_of T p (after_schedule T (take i schedule) w) }
+
+-- each step of the schedule
 abbrev pub records_from : PlanTree → List ℕ → World ℕ → List StepRecord
-records_from T [] w = []
-records_from T (p ∷ schedule) w =
-    record { process = p; action = action_of T p w } ∷ records_from T schedule (after_step T p w)
+records_from T schedule w = map (record_at T schedule w) (range_with_len 0 (length schedule))
 
 -- the same where the processes have these inputs and none has taken a step
 abbrev pub records_of : TreePlan → List ℕ → List ℕ → List StepRecord
@@ -75,6 +95,8 @@ IsOfTable t (acts.Write node team x) = Unit {0}
 IsOfTable t (acts.Apply node operation response team) =
     (operation.0 < length t.operations) × (response.0 < length t.responses)
 IsOfTable t (acts.Read node state team) = state.0 < length t.states
+IsOfTable t (acts.Look node operation response team) =
+    (operation.0 < length t.operations) × (response.0 < length t.responses)
 IsOfTable t (acts.Take node team x) = Unit {0}
 IsOfTable t (acts.Decide x) = Unit {0}
 

@@ -20,7 +20,7 @@ abbrev pub stage_of : StoredStage → Stage
 stage_of stage.Write = Write
 stage_of stage.Apply = Apply
 stage_of (stage.Look response) = Look response.0
-stage_of (stage.Take response saw) = Take response.0 saw.0
+stage_of (stage.Take response saw) = Take response.0 saw
 
 abbrev pub local_of : StoredLocal → Local ℕ
 local_of (local.Active i x s) = Active i x (stage_of s)

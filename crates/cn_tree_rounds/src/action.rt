@@ -12,7 +12,7 @@ pub enum Action {
         value: u64,
     },
     /// It applies its operation to the object of a node, and gets this response. Where it does not
-    /// read the object, it judges by the response that this team came first there.
+    /// look at the object, it judges by the response that this team came first there.
     Apply {
         node: u8,
         operation: Operation,
@@ -23,6 +23,14 @@ pub enum Action {
     Read {
         node: u8,
         state: State,
+        team: u8,
+    },
+    /// It looks at the object of a node by this operation, which changes nothing, gets this response,
+    /// and judges that this team came first there.
+    Look {
+        node: u8,
+        operation: Operation,
+        response: Response,
         team: u8,
     },
     /// It reads this value in the register of a team at a node, and takes it to its next place.

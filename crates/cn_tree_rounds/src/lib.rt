@@ -4,9 +4,10 @@
 //!
 //! 1. writes its value to the register of its team,
 //! 2. applies its operation to the object of the node,
-//! 3. reads the object, where the processes of the node read,
-//! 4. reads the register of the team that it judges to have come first, by its response and by the
-//!    state if it read one.
+//! 3. looks at the object, where the processes of the node look: it reads the state, or it does a
+//!    further operation, which changes nothing, and gets the response,
+//! 4. reads the register of the team that it judges to have come first, by its response and by what
+//!    it saw.
 //!
 //! It takes the value that it finds to its next place, and decides it at the root. [`run_schedule`]
 //! runs a list of the processes that take the steps. [`run_steps`] also gives each step.

@@ -3,7 +3,7 @@ ghost use Rattle.std.specs.Prelude.{◌≡◌};
 ghost use Rattle.cn_trees.specs.Consensus.{decision_of};
 ghost use Rattle.cn_tree_rounds.specs.Worlds.{local_of};
 
-use cn_table::{Response, State};
+use cn_table::Response;
 
 /// The next action of a process at its place, with what it keeps for this action.
 #[derive(Clone, Copy, Debug)]
@@ -12,11 +12,11 @@ pub(crate) enum Stage {
     Write,
     /// It applies its operation to the object.
     Apply,
-    /// It reads the object. Its operation got this response.
+    /// It looks at the object. Its operation got this response.
     Look(Response),
     /// It reads the register of the team that came first, by its judgement of this response of its
-    /// operation and this state that it read. The state is 0 where it does not read.
-    Take(Response, State),
+    /// operation, and of this that it saw: 0 where it does not look.
+    Take(Response, u8),
 }
 
 /// The local state of a process.

@@ -112,7 +112,7 @@ fn record_all(
 /// - all decisions are equal;
 /// - each is the input of a process that occurs in the schedule;
 /// - a process has decided exactly if it occurs as often as it has steps, which are three for each
-///   place of its path, or four where it reads the object.
+///   place of its path, or four where it looks at the object.
 ///
 /// # Errors
 ///

@@ -3,13 +3,14 @@ ghost use Rattle.std.specs.Prelude.{◌≡◌, ◌+◌, ◌<◌, IfSome, length}
 ghost use Rattle.cn_trees.specs.Steps.{behind, onward};
 ghost use Rattle.cn_tree_plans.specs.Paths.{place_of};
 ghost use Rattle.cn_tree_plans.specs.Plan.{tree_of};
-ghost use Rattle.cn_tree_rounds.specs.Actions.{IsOfTable, judged_behind, taking};
+ghost use Rattle.cn_tree_rounds.specs.Actions.{IsOfTable, judged_behind, looking, taking};
 ghost use Rattle.cn_tree_rounds.specs.Turns.{IsTurn, action_at_turn, local_after, node_after};
 ghost use Rattle.cn_tree_rounds.specs.Worlds.{local_of, stage_of};
 
 use crate::action::Action;
 use crate::local::{Local, Stage};
 use crate::node::Node;
+use cn_meetings::Sight;
 use cn_table::{Response, State};
 use cn_tree_plans::laws::tree_plans_are_right;
 use cn_tree_plans::{Place, TreePlan};
@@ -47,7 +48,10 @@ impl Turn {
                 node.state = next;
                 self.goes_on(self.behind(plan, response))
             }
-            Stage::Look(response) => self.goes_on(Stage::Take(response, node.state)),
+            Stage::Look(response) => {
+                let saw = plan.see(at, node.state);
+                self.goes_on(Stage::Take(response, saw))
+            }
             Stage::Take(response, saw) => {
                 let first = plan.judge(at, self.process, response, saw);
                 match node.register(first) {
@@ -84,11 +88,7 @@ impl Turn {
                     team: self.judged_behind(plan, response),
                 })
             }
-            Stage::Look(response) => Some(Action::Read {
-                node: at,
-                state: node.state,
-                team: plan.judge(at, self.process, response, node.state),
-            }),
+            Stage::Look(response) => Some(self.looking(plan, response, node.state)),
             Stage::Take(response, saw) => {
                 let team = plan.judge(at, self.process, response, saw);
                 Some(self.taking(team, node.register(team)?))
@@ -113,24 +113,51 @@ impl Turn {
         ensures { stage_of result
             ≡ behind (tree_of plan.now) self.process (place_of self.here) response.0 }
     {
-        if plan.reads(self.here.node) {
+        if plan.looks(self.here.node) {
             Stage::Look(response)
         } else {
-            Stage::Take(response, State(0))
+            Stage::Take(response, 0)
         }
     }
 
-    /// The team that a process judges by its response alone, if it does not read.
+    /// The team that a process judges by its response alone, if it does not look.
     fn judged_behind(self, plan: &TreePlan, response: Response) -> Option<u8>
         requires { IsTurn plan.now self }
         ensures { result
             ≡ judged_behind (tree_of plan.now) self.here.node self.process response.0 }
     {
         let at = self.here.node;
-        if plan.reads(at) {
+        if plan.looks(at) {
             None
         } else {
-            Some(plan.judge(at, self.process, response, State(0)))
+            Some(plan.judge(at, self.process, response, 0))
+        }
+    }
+
+    /// The action in which it looks at the object in this state. Its operation got this response.
+    fn looking(self, plan: &TreePlan, response: Response, state: State) -> Action
+        requires turn { IsTurn plan.now self }
+        requires state { state.0 < length plan.now.table.states }
+        ensures action { result
+            ≡ looking (tree_of plan.now) self.here.node self.process response.0 state.0 }
+        ensures table { IsOfTable plan.now.table result }
+    {
+        let node = self.here.node;
+        let saw = plan.see(node, state);
+        let team = plan.judge(node, self.process, response, saw);
+        match plan.sight(node) {
+            Sight::State => Action::Read { node, state, team },
+            // A process that does not look takes no such action.
+            Sight::Nothing => Action::Read { node, state, team },
+            Sight::Response(operation) => {
+                let (response, _) = plan.table().apply(operation, state);
+                Action::Look {
+                    node,
+                    operation,
+                    response,
+                    team,
+                }
+            }
         }
     }
 

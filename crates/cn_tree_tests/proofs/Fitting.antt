@@ -1,6 +1,9 @@
 -- The meetings of three bits fit each table with a state and two operations.
-use Rattle.std.proofs.Common.{ℕ, zero, suc, ◌≡◌, ◌+◌, ◌<◌, ◌≤◌, false, List, [], ◌∷◌, length, refl, arith, slice_index, slice_index_or}
+use Rattle.std.proofs.Common.{ℕ, zero, suc, ◌≡◌, ◌+◌, ◌<◌, ◌≤◌, List, [], ◌∷◌, length, refl, arith, slice_index, slice_index_or}
 use Rattle.cn_table.specs.TypeTable.{TypeTable}
+use Rattle.cn_meetings.specs.Meeting.{IsSightOf}
+use Rattle.cn_meetings.specs.Sights.{sight_of}
+use Rattle.cn_meetings.specs.declared.sight.Sight.TheVariants.{Nothing}
 use Rattle.cn_trees.specs.Tree.{Teams, members}
 use Rattle.cn_trees.specs.Tree.Teams.{Alone, Last, Meet}
 use Rattle.cn_tree_costs.specs.Nodes.{node_at}
@@ -10,19 +13,25 @@ abbrev pub four : Teams
 four = Meet (Alone (Alone Last)) (Meet (Alone (Alone Last)) Last)
 
 abbrev pub bit : List ℕ → NodeMeeting
-bit operations = record { start = 0; reads = false; operations = operations }
+bit operations = record { start = 0; sight = Nothing; operations = operations }
 
 abbrev pub bits : List NodeMeeting
 bits = bit (0 ∷ 0 ∷ 1 ∷ 1 ∷ []) ∷ bit (0 ∷ 1 ∷ []) ∷ bit (0 ∷ 1 ∷ []) ∷ []
 
 pub bits_fit : (t : TypeTable) → 1 ≤ length t.states → 2 ≤ length t.operations → AreMeetings t four bits
-bits_fit t some two = record { count = refl; starts = starts; sizes = sizes; operations = operations }
+bits_fit t some two = record { count = refl; starts = starts; sights = sights; sizes = sizes; operations = operations }
   where
     starts : (v : ℕ) → v < 3 → (slice_index_or bits v no_meeting).start < length t.states
     starts zero lt = some
     starts (suc zero) lt = some
     starts (suc (suc zero)) lt = some
     starts (suc (suc (suc v))) lt = absurd (omega arith)
+
+    sights : (v : ℕ) → v < 3 → IsSightOf t (sight_of (slice_index_or bits v no_meeting).sight)
+    sights zero lt = tt
+    sights (suc zero) lt = tt
+    sights (suc (suc zero)) lt = tt
+    sights (suc (suc (suc v))) lt = absurd (omega arith)
 
     sizes : (v : ℕ) → v < 3 → length (slice_index_or bits v no_meeting).operations ≡ members (node_at four v).teams
     sizes zero lt = refl

@@ -1,11 +1,12 @@
 //! Three sticky bits for four processes: two meet at each of two bits, and then all at the third.
-ghost use Rattle.std.specs.Prelude.{◌≡◌, IfOk, false, map};
+ghost use Rattle.std.specs.Prelude.{◌≡◌, IfOk, map};
 ghost use Rattle.cn_trees.specs.Tree.Teams.{Alone, Last, Meet};
 ghost use Rattle.cn_tree_plans.specs.Teams.{teams_of};
 
-use cn_table::{Operation, Response, State, read_table};
+use cn_meetings::Sight;
+use cn_table::{Operation, State, read_table};
 use cn_tree_plans::{Meeting, Teams, TreePlan};
-use cn_tree_rounds::{Action, run_schedule, run_steps};
+use cn_tree_rounds::{run_schedule, run_steps};
 use cn_tree_text::plan_lines;
 use std::alloc::Global;
 use std::process::Abort;
@@ -48,7 +49,7 @@ process 3 steps 6: node 2 team 1, node 0 team 1
 }
 
 /// Two processes that meet.
-fn pair(alloc: Global) -> Result<Teams, Fail>
+pub(crate) fn pair(alloc: Global) -> Result<Teams, Fail>
     ensures { IfOk result (λ teams. teams_of teams ≡ Alone (Alone Last)) }
 {
     let last = Box::new(alloc, Teams::Last)?;
@@ -68,15 +69,15 @@ fn two_pairs(alloc: Global) -> Result<Teams, Fail>
     Ok(Teams::Meet(first, rest))
 }
 
-/// A meeting at which nobody reads.
+/// A meeting at which nobody looks.
 fn meeting_of(alloc: Global, operations: &[Operation]) -> Result<Meeting, Fail>
     ensures { IfOk result (λ m. m
-        ≡ record { start = 0; reads = false; operations = map (λ o. o.0) operations.now }) }
+        ≡ record { start = 0; sight = Sight.Nothing; operations = map (λ o. o.0) operations.now }) }
 {
     let operations = Vec::from_slice(alloc, operations)?;
     Ok(Meeting {
         start: State(0),
-        reads: false,
+        sight: Sight::Nothing,
         operations,
     })
 }

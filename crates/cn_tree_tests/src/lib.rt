@@ -3,3 +3,5 @@
 
 #[cfg(test)]
 mod four;
+#[cfg(test)]
+mod peek;

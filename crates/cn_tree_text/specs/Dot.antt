@@ -5,7 +5,7 @@ use Rattle.std.specs.Prelude.{ℕ, zero, suc, List, [], ◌∷◌, ◌++◌, cod
 use Rattle.std.specs.List.{concat, range_with_len}
 use Rattle.cn_trees.specs.Tree.{Place, nodes_of, processes_of}
 use Rattle.cn_tree_plans.specs.Plan.{TreePlan, tree_of}
-use Rattle.cn_tree_text.specs.Places.{operation_at, place_at, place_count, reads_at, start_at}
+use Rattle.cn_tree_text.specs.Places.{operation_at, place_at, place_count, sight_at, start_at}
 use Rattle.cn_tree_text.specs.Text.{sight_text}
 
 -- the type
@@ -18,7 +18,8 @@ head_dot plan =
 abbrev pub node_dot : TreePlan → ℕ → List ℕ
 node_dot plan v =
     concat (codes "  node_" ∷ decimal v ∷ codes " [label=\"node " ∷ decimal v ∷ codes " from "
-    ∷ start_at plan v ∷ codes " by " ∷ sight_text (reads_at plan v) ∷ codes "\"];\n" ∷ [])
+    ∷ start_at plan v ∷ codes " by " ∷ sight_text plan.table (sight_at plan v)
+    ∷ codes "\"];\n" ∷ [])
 
 -- the origin of process p on its way to place i of its path
 abbrev pub origin_dot : TreePlan → ℕ → ℕ → List ℕ

@@ -2,6 +2,8 @@
 use Rattle.std.specs.Prelude.{ℕ, ◌+◌, ◌-◌, ◌==◌, Bool, not, List, length, slice_index_or, ◌||◌}
 use Rattle.cn_table.specs.Names.{name_at}
 use Rattle.cn_table.specs.TypeTable.{operation_names}
+use Rattle.cn_meetings.specs.Sights.{reads}
+use Rattle.cn_meetings.specs.declared.sight.Sight.{Sight}
 use Rattle.cn_trees.specs.Tree.{Place, members, path_of, place_of, team_in}
 use Rattle.cn_tree_costs.specs.Nodes.{node_at}
 use Rattle.cn_tree_costs.specs.Sizes.{sizes_of}
@@ -33,9 +35,13 @@ node_meeting plan v = slice_index_or plan.meetings v no_meeting
 abbrev pub start_at : TreePlan → ℕ → List ℕ
 start_at plan v = name_at plan.table.states (node_meeting plan v).start
 
--- the processes of node v read the state behind their operations
+-- what the processes of node v see of the state behind their operations
+abbrev pub sight_at : TreePlan → ℕ → Sight
+sight_at plan v = (node_meeting plan v).sight
+
+-- they read it
 abbrev pub reads_at : TreePlan → ℕ → Bool
-reads_at plan v = (node_meeting plan v).reads
+reads_at plan v = reads (sight_at plan v)
 
 -- the name of the operation of process p at node v
 abbrev pub operation_at : TreePlan → ℕ → ℕ → List ℕ

@@ -5,13 +5,17 @@
 use Rattle.std.specs.Prelude.{ℕ, ◌+◌, ◌==◌, Bool, List, [], ◌∷◌, ◌++◌, codes, decimal, flat_map}
 use Rattle.std.specs.Prelude.{if◌then◌else◌, length}
 use Rattle.std.specs.List.{concat, range_with_len}
-use Rattle.cn_meetings.specs.Meeting.{act}
+use Rattle.cn_table.specs.TypeTable.{TypeTable, transition}
+use Rattle.cn_meetings.specs.Meeting.{act, looks}
+use Rattle.cn_meetings.specs.Sights.{sight_of}
+use Rattle.cn_meetings.specs.declared.sight.Sight.{Sight}
+use Rattle.cn_meetings.specs.declared.sight.Sight.TheVariants.{Nothing, Response, State}
 use Rattle.cn_trees.specs.Consensus.{steps_of}
 use Rattle.cn_trees.specs.Tree.{Place, nodes_of, processes_of}
 use Rattle.cn_tree_costs.specs.Cost.{cost}
 use Rattle.cn_tree_plans.specs.Plan.{TreePlan, judged_at, tree_of}
 use Rattle.cn_tree_plans.specs.declared.judged.Judged.{Judged}
-use Rattle.cn_tree_text.specs.Places.{node_meeting, operation_at, place_at, place_count, reads_at, team_count}
+use Rattle.cn_tree_text.specs.Places.{node_meeting, operation_at, place_at, place_count, sight_at, team_count}
 
 -- ---- what all processes share
 
@@ -83,40 +87,56 @@ apply_promela plan p node =
     ++ flat_map (row_promela plan p node) (range_with_len 0 (length plan.table.states))
     ++ codes " fi };\n"
 
--- to read the state, where the processes of the node read it
-abbrev pub read_promela : Bool → ℕ → ℕ → List ℕ
-read_promela reads p node =
-    if reads
-    then concat (codes "    atomic { ACTION(" ∷ decimal p ∷ codes "); state = object_"
-    ∷ decimal node ∷ codes " };\n" ∷ [])
-    else []
+-- in this state, the operation of a look gives a response
+abbrev pub answer_promela : TypeTable → ℕ → ℕ → ℕ → List ℕ
+answer_promela t o node state =
+    concat (codes " :: object_" ∷ decimal node ∷ codes " == " ∷ decimal state
+    ∷ codes " -> saw = " ∷ decimal (transition t o state).0 ∷ [])
 
--- in this state, where it is read
-abbrev pub state_promela : Bool → ℕ → List ℕ
-state_promela reads state = if reads then codes " && state == " ++ decimal state else []
+-- to look by an operation
+abbrev pub answers_promela : TypeTable → ℕ → ℕ → ℕ → List ℕ
+answers_promela t o p node =
+    selection_promela p ++ flat_map (answer_promela t o node) (range_with_len 0 (length t.states))
+    ++ codes " fi };\n"
+
+-- to read the state
+abbrev pub read_promela : ℕ → ℕ → List ℕ
+read_promela p node =
+    concat (codes "    atomic { ACTION(" ∷ decimal p ∷ codes "); saw = object_" ∷ decimal node
+    ∷ codes " };\n" ∷ [])
+
+-- to look at the object, where the processes of the node look
+abbrev pub see_promela : TypeTable → Sight → ℕ → ℕ → List ℕ
+see_promela t State p node = read_promela p node
+see_promela t Nothing p node = []
+see_promela t (Response o) p node = answers_promela t o.0 p node
+
+-- where this is seen, if the process looks
+abbrev pub saw_promela : Bool → ℕ → List ℕ
+saw_promela looks saw = if looks then codes " && saw == " ++ decimal saw else []
 
 -- the process takes the register of a team
 unfoldable pub value_promela : ℕ → ℕ → List ℕ
 value_promela node team =
     concat (codes " -> value = written_" ∷ decimal node ∷ codes "_" ∷ decimal team ∷ [])
 
--- for this response, in this state, the process takes the register of the judged team
+-- for this response, where this is seen, the process takes the register of the judged team
 unfoldable pub judged_promela : Bool → ℕ → Judged → List ℕ
-judged_promela reads node j =
-    codes " :: response == " ++ decimal j.response.0 ++ state_promela reads j.state.0
+judged_promela looks node j =
+    codes " :: response == " ++ decimal j.response.0 ++ saw_promela looks j.saw
     ++ value_promela node j.team
 
 -- to take the value of the team that process p judges to have been first; it gets nothing else
 abbrev pub take_promela : Bool → ℕ → ℕ → List Judged → List ℕ
-take_promela reads p node judged =
-    selection_promela p ++ flat_map (judged_promela reads node) judged
+take_promela looks p node judged =
+    selection_promela p ++ flat_map (judged_promela looks node) judged
     ++ codes " :: else -> assert(false) fi"
 
--- to read the state, if it is read, and to take a value
+-- to look, if the process looks, and to take a value
 abbrev pub look_promela : TreePlan → ℕ → ℕ → List ℕ
 look_promela plan p node =
-    read_promela (reads_at plan node) p node
-    ++ take_promela (reads_at plan node) p node (judged_at plan node p)
+    see_promela plan.table (sight_at plan node) p node
+    ++ take_promela (looks (sight_of (sight_at plan node))) p node (judged_at plan node p)
 
 -- the actions at a place, the last without its end
 unfoldable pub actions_promela : TreePlan → ℕ → Place → List ℕ
@@ -143,7 +163,7 @@ place_promela plan p i = actions_promela plan p (place_at plan p i) ++ end_prome
 abbrev pub proctype_promela : ℕ → List ℕ
 proctype_promela p =
     concat (codes "\nactive proctype process_" ∷ decimal p ∷ codes "() {\n    byte value = "
-    ∷ decimal p ∷ codes ", response, state;\n" ∷ [])
+    ∷ decimal p ∷ codes ", response, saw;\n" ∷ [])
 
 -- process p, with the label at which it stops
 abbrev pub process_promela : TreePlan → ℕ → List ℕ

@@ -4,7 +4,7 @@ use Rattle.std.specs.List.{concat}
 use Rattle.cn_table.specs.Names.{name_at}
 use Rattle.cn_table.specs.TypeTable.{TypeTable, operation_names}
 use Rattle.cn_tree_rounds.specs.declared.action.Action.{Action}
-use Rattle.cn_tree_rounds.specs.declared.action.Action.TheVariants.{Write, Apply, Read, Take, Decide}
+use Rattle.cn_tree_rounds.specs.declared.action.Action.TheVariants.{Write, Apply, Read, Look, Take, Decide}
 use Rattle.cn_tree_rounds.specs.declared.action.StepRecord.{StepRecord}
 
 -- the team that is judged by the response alone
@@ -12,11 +12,17 @@ abbrev pub told_text : Option ℕ → List ℕ
 told_text None = []
 told_text (Some team) = codes ", team " ++ decimal team
 
--- an operation and its response, and the team that this shows to a process that does not read
+-- an operation and its response, and the team that this shows to a process that does not look
 abbrev pub apply_text : List ℕ → ℕ → List ℕ → Option ℕ → List ℕ
 apply_text operation node response team =
     codes "applies " ++ operation ++ codes " at node " ++ decimal node ++ codes ": " ++ response
     ++ told_text team
+
+-- a look by an operation, the response, and the team that is judged
+abbrev pub look_text : List ℕ → ℕ → List ℕ → ℕ → List ℕ
+look_text operation node response team =
+    codes "looks by " ++ operation ++ codes " at node " ++ decimal node ++ codes ": " ++ response
+    ++ codes ", team " ++ decimal team
 
 -- an action in words
 abbrev pub action_text : TypeTable → Action → List ℕ
@@ -28,6 +34,8 @@ action_text t (Apply node operation response team) =
 action_text t (Read node state team) =
     concat (codes "reads " ∷ name_at t.states state.0 ∷ codes " at node " ∷ decimal node
     ∷ codes ": team " ∷ decimal team ∷ [])
+action_text t (Look node operation response team) =
+    look_text (name_at (operation_names t) operation.0) node (name_at t.responses response.0) team
 action_text t (Take node team value) =
     concat (codes "takes " ∷ decimal value ∷ codes " from team " ∷ decimal team ∷ codes " of node "
     ∷ decimal node ∷ [])

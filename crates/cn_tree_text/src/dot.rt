@@ -8,7 +8,7 @@ ghost use Rattle.cn_tree_plans.specs.Plan.{tree_of};
 ghost use Rattle.cn_tree_text.specs.Dot.{arrow_dot, box_dot, edge_dot, head_dot, node_dot, origin_dot, plan_dot, process_dot};
 ghost use Rattle.cn_tree_text.specs.Places.{place_count};
 
-use crate::lines::sight_name;
+use crate::lines::push_sight;
 use crate::places::{path_len, place_at};
 use cn_pieces::push_pieces;
 use cn_tree_plans::{Place, TreePlan};
@@ -69,13 +69,10 @@ fn push_node(text: &mut String, plan: &TreePlan, node: u8) -> Result<(), AllocEr
     ensures { OnOk result (string_bytes text.new
         ≡ string_bytes text.old ++ node_dot plan.now node) }
 {
-    let meeting = plan.meeting(node);
-    let start = plan.table().state_name(meeting.start);
-    let sight = sight_name(meeting.reads);
-    write!(
-        text,
-        "  node_{node} [label=\"node {node} from {start} by {sight}\"];\n"
-    )
+    let start = plan.table().state_name(plan.meeting(node).start);
+    write!(text, "  node_{node} [label=\"node {node} from {start} by ")?;
+    push_sight(text, plan.table(), plan.sight(node))?;
+    text.push_str("\"];\n")
 }
 
 #[tactic(auto, using(cn_table::proofs::Lines::lines_more))]

@@ -1,28 +1,33 @@
 //! The text of a plan tree for people.
 ghost use Rattle.std.specs.Prelude.{◌≡◌, ◌<◌, ◌++◌, All, IfOk, OnOk, codes, flat_map, length, map, string_bytes};
 ghost use Rattle.std.specs.List.{range_with_len};
+ghost use Rattle.cn_meetings.specs.Meeting.{IsSightOf};
+ghost use Rattle.cn_meetings.specs.Sights.{sight_of};
 ghost use Rattle.cn_meetings.specs.Witness.{Has};
 ghost use Rattle.cn_table.specs.Texts.{joined_texts};
 ghost use Rattle.cn_trees.specs.Tree.{comes_to, nodes_of, processes_of};
 ghost use Rattle.cn_tree_plans.specs.Paths.{place_of, places_of};
 ghost use Rattle.cn_tree_plans.specs.Plan.{tree_of};
+ghost use Rattle.cn_tree_plans.specs.Sights.{seen_count};
 ghost use Rattle.cn_tree_text.specs.Places.{first_at, is_first, is_last, size_at};
-ghost use Rattle.cn_tree_text.specs.Text.{end_text, head_line, judgement_text, member_line, node_line, node_lines, place_text, plan_text, process_line, sight_text, state_text, teams_text};
+ghost use Rattle.cn_tree_text.specs.Text.{end_text, head_line, judgement_text, member_line, node_line, node_lines, place_text, plan_text, process_line, seen_text, sight_text, teams_text};
 
 use crate::places::{end_of, judged_of, nodes_have_members};
-use cn_table::{State, Table};
+use cn_meetings::Sight;
+use cn_table::{Response, State, Table};
 use cn_tree_plans::{Judged, Place, TreePlan};
 use std::alloc::{AllocError, Global};
 
 /// The text of a plan tree for people: lines that each end with a line feed.
 ///
 /// The first is `type T processes n objects k steps s`, with the greatest number of own steps. Each
-/// node has a line `node v start S by response teams ..`, or `by response and state` if its
-/// processes read the state, with the processes of each team, as `0-3 4`. Behind it each process of
-/// the node has a line `node v process p O judges ..`, with its operation, and for each response `R`
-/// that it can get, or each response and state `R/S`, the team that came first, as `R:0`. Last, each
-/// process has a line `process p steps s: ..` with its places from its lowest node to the root, each
-/// as `node v team g`, with a comma and a space between two.
+/// node has a line `node v start S by response teams ..`, with the processes of each team, as
+/// `0-3 4`; or `by response and state` if its processes read the state, or `by response and look L`
+/// if they look by the operation L. Behind it each process of the node has a line
+/// `node v process p O judges ..`, with its operation, and for each response `R` that it can get the
+/// team that came first, as `R:0`; or so for each response and state, or each response and that of
+/// the look, `R/S`. Last, each process has a line `process p steps s: ..` with its places from its
+/// lowest node to the root, each as `node v team g`, with a comma and a space between two.
 ///
 /// # Errors
 ///
@@ -32,22 +37,24 @@ pub fn plan_lines(alloc: Global, plan: &TreePlan) -> Result<String, AllocError>
     // promise: forms-of-a-plan-tree (plan_text)
     ensures { IfOk result (λ text. string_bytes text ≡ plan_text plan.now) }
 {
-    let mut text = String::new(alloc);
-    push_head(&mut text, plan)?;
+    let mut text = head_line(alloc, plan)?;
     push_nodes(&mut text, plan)?;
     push_processes(&mut text, plan)?;
     Ok(text)
 }
 
-fn push_head(text: &mut String, plan: &TreePlan) -> Result<(), AllocError>
-    ensures { OnOk result (string_bytes text.new ≡ string_bytes text.old ++ head_line plan.now) }
+/// The first line of the text of a plan tree ([`plan_lines`]): how short the plan is.
+///
+/// # Errors
+///
+/// `AllocError` if memory runs out.
+pub fn head_line(alloc: Global, plan: &TreePlan) -> Result<String, AllocError>
+    // promise: forms-of-a-plan-tree (head_line)
+    ensures { IfOk result (λ text. string_bytes text ≡ head_line plan.now) }
 {
     let (name, processes) = (plan.table().name(), plan.processes());
     let (nodes, steps) = (plan.nodes(), plan.cost().steps);
-    write!(
-        text,
-        "type {name} processes {processes} objects {nodes} steps {steps}\n"
-    )
+    format!(in alloc; "type {name} processes {processes} objects {nodes} steps {steps}\n")
 }
 
 #[tactic(auto, using(cn_table::proofs::Lines::lines_more))]
@@ -76,22 +83,27 @@ fn push_node_line(text: &mut String, plan: &TreePlan, node: u8) -> Result<(), Al
     ensures { OnOk result (string_bytes text.new
         ≡ string_bytes text.old ++ node_line plan.now node) }
 {
-    let meeting = plan.meeting(node);
-    let start = plan.table().state_name(meeting.start);
-    let sight = sight_name(meeting.reads);
-    write!(text, "node {node} start {start} by {sight} teams")?;
+    let start = plan.table().state_name(plan.meeting(node).start);
+    write!(text, "node {node} start {start} by ")?;
+    push_sight(text, plan.table(), plan.sight(node))?;
+    text.push_str(" teams")?;
     push_teams(text, plan, node)?;
     text.push_str("\n")
 }
 
 /// By what the processes of a node judge.
-pub(crate) fn sight_name(reads: bool) -> &'static str
-    ensures { result.now ≡ sight_text reads }
+pub(crate) fn push_sight(text: &mut String, table: &Table, sight: Sight) -> Result<(), AllocError>
+    requires { IsSightOf table.now (sight_of sight) }
+    ensures { OnOk result (string_bytes text.new
+        ≡ string_bytes text.old ++ sight_text table.now sight) }
 {
-    if reads {
-        "response and state"
-    } else {
-        "response"
+    match sight {
+        Sight::State => text.push_str("response and state"),
+        Sight::Nothing => text.push_str("response"),
+        Sight::Response(operation) => {
+            let look = table.operation_name(operation);
+            write!(text, "response and look {look}")
+        }
     }
 }
 
@@ -168,55 +180,55 @@ fn push_member(text: &mut String, plan: &TreePlan, node: u8, process: u8) -> Res
 {
     let operation = plan.table().operation_name(plan.operation(node, process));
     write!(text, "node {node} process {process} {operation} judges")?;
-    let reads = plan.meeting(node).reads;
-    push_judged(text, plan.table(), reads, judged_of(plan, node, process))?;
+    let sight = plan.sight(node);
+    push_judged(text, plan.table(), sight, judged_of(plan, node, process))?;
     text.push_str("\n")
 }
 
 fn push_judged(
     text: &mut String,
     table: &Table,
-    reads: bool,
+    sight: Sight,
     judged: &[Judged],
 ) -> Result<(), AllocError>
-    requires { All
-        (λ j. (j.response.0 < length table.now.responses) × (j.state.0 < length table.now.states))
-        judged.now }
+    requires { All (λ j. (j.response.0 < length table.now.responses)
+        × (j.saw < seen_count table.now (sight_of sight))) judged.now }
     ensures { OnOk result (string_bytes text.new
-        ≡ string_bytes text.old ++ flat_map (judgement_text table.now reads) judged.now) }
+        ≡ string_bytes text.old ++ flat_map (judgement_text table.now sight) judged.now) }
 {
     for entry in judged {
-        push_judgement(text, table, reads, *entry)?;
+        push_judgement(text, table, sight, *entry)?;
     }
     Ok(())
 }
 
-/// A response, the state, if it is read, and the team that they show.
+/// A response, what is seen, if the process looks, and the team that they show.
 fn push_judgement(
     text: &mut String,
     table: &Table,
-    reads: bool,
+    sight: Sight,
     judged: Judged,
 ) -> Result<(), AllocError>
     requires response { judged.response.0 < length table.now.responses }
-    requires state { judged.state.0 < length table.now.states }
+    requires saw { judged.saw < seen_count table.now (sight_of sight) }
     ensures { OnOk result (string_bytes text.new
-        ≡ string_bytes text.old ++ judgement_text table.now reads judged) }
+        ≡ string_bytes text.old ++ judgement_text table.now sight judged) }
 {
     write!(text, " {}", table.response_name(judged.response))?;
-    push_state(text, table, reads, judged.state)?;
+    push_seen(text, table, sight, judged.saw)?;
     write!(text, ":{}", judged.team)
 }
 
-fn push_state(text: &mut String, table: &Table, reads: bool, state: State) -> Result<(), AllocError>
-    requires { state.0 < length table.now.states }
+/// A state that is read, or the response of a look.
+fn push_seen(text: &mut String, table: &Table, sight: Sight, saw: u8) -> Result<(), AllocError>
+    requires { saw < seen_count table.now (sight_of sight) }
     ensures { OnOk result (string_bytes text.new
-        ≡ string_bytes text.old ++ state_text table.now reads state.0) }
+        ≡ string_bytes text.old ++ seen_text table.now sight saw) }
 {
-    if reads {
-        write!(text, "/{}", table.state_name(state))
-    } else {
-        Ok(())
+    match sight {
+        Sight::State => write!(text, "/{}", table.state_name(State(saw))),
+        Sight::Nothing => Ok(()),
+        Sight::Response(_) => write!(text, "/{}", table.response_name(Response(saw))),
     }
 }
 

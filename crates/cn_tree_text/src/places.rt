@@ -1,11 +1,13 @@
 //! The places of a plan tree, and the processes of its nodes.
 ghost use Rattle.std.specs.Prelude.{◌≡◌, ◌↔◌, ◌+◌, ◌<◌, ℕ, All, length};
+ghost use Rattle.cn_meetings.specs.Sights.{sight_of};
 ghost use Rattle.cn_meetings.specs.Witness.{Has};
 ghost use Rattle.cn_trees.specs.Tree.{comes_to, nodes_of, processes_of};
 ghost use Rattle.cn_tree_costs.specs.Nodes.{IsAmong, node_at};
 ghost use Rattle.cn_tree_plans.specs.Paths.{place_of};
 ghost use Rattle.cn_tree_plans.specs.Plan.{judged_at, tree_of};
-ghost use Rattle.cn_tree_text.specs.Places.{first_at, place_at, place_count, size_at};
+ghost use Rattle.cn_tree_plans.specs.Sights.{seen_count};
+ghost use Rattle.cn_tree_text.specs.Places.{first_at, place_at, place_count, sight_at, size_at};
 
 use cn_tree_costs::laws::nodes_are_trees;
 use cn_tree_plans::laws::judgements_are_of_the_type;
@@ -40,14 +42,14 @@ pub(crate) fn end_of(plan: &TreePlan, node: u8) -> u8
     first + plan.size(node)
 }
 
-/// What a process judges at a node, each with a response and a state of the type.
+/// What a process judges at a node, each with a response of the type, and with what it can see.
 pub(crate) fn judged_of(plan: &TreePlan, node: u8, process: u8) -> &[Judged]
     requires node { node < nodes_of (tree_of plan.now) }
     requires process { Has (comes_to plan.now.teams node) process }
     ensures list { result.now ≡ judged_at plan.now node process }
     ensures known { All
         (λ j. (j.response.0 < length plan.now.table.responses)
-        × (j.state.0 < length plan.now.table.states)) result.now }
+        × (j.saw < seen_count plan.now.table (sight_of (sight_at plan.now node)))) result.now }
 {
     judgements_are_of_the_type(plan);
     plan.judged(node, process)

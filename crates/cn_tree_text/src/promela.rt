@@ -1,23 +1,26 @@
 //! A plan tree as a model in Promela.
 ghost use Rattle.std.specs.Prelude.{◌≡◌, ◌<◌, ◌++◌, IfOk, OnOk, flat_map, length, string_bytes};
 ghost use Rattle.std.specs.List.{range_with_len};
+ghost use Rattle.cn_meetings.specs.Meeting.{IsSightOf};
+ghost use Rattle.cn_meetings.specs.Sights.{sight_of};
 ghost use Rattle.cn_meetings.specs.Witness.{Has};
 ghost use Rattle.cn_trees.specs.Tree.{comes_to, nodes_of, processes_of};
 ghost use Rattle.cn_tree_plans.specs.Paths.{place_of};
 ghost use Rattle.cn_tree_plans.specs.Plan.{tree_of};
 ghost use Rattle.cn_tree_text.specs.Places.{place_count};
-ghost use Rattle.cn_tree_text.specs.Promela.{actions_promela, apply_promela, end_promela, head_promela, judged_promela, look_promela, node_promela, place_promela, plan_promela, process_promela};
-ghost use Rattle.cn_tree_text.specs.Promela.{proctype_promela, read_promela, register_promela, row_promela, rules_promela, selection_promela, stand_promela, state_promela, take_promela, value_promela, write_promela};
+ghost use Rattle.cn_tree_text.specs.Promela.{actions_promela, answer_promela, answers_promela, apply_promela, end_promela, head_promela, judged_promela, look_promela, node_promela, place_promela, plan_promela, process_promela};
+ghost use Rattle.cn_tree_text.specs.Promela.{proctype_promela, read_promela, register_promela, row_promela, rules_promela, saw_promela, see_promela, selection_promela, stand_promela, take_promela, value_promela, write_promela};
 
 use crate::places::{path_len, place_at};
-use cn_table::State;
+use cn_meetings::Sight;
+use cn_table::{Operation, State, Table};
 use cn_tree_plans::{Judged, Place, TreePlan};
 use std::alloc::{AllocError, Global};
 
 /// A plan tree as a model in Promela: a process for each process of the tree. At each place of its
 /// path it takes its actions, one `atomic` each, and may stop before each: it writes, it applies its
-/// operation, it reads the state where the node says so, and it takes a value. It begins with its
-/// own number as the value. Assertions say of each decision that it is the value of a process that
+/// operation, it looks where the node says so, by a read or a further operation, and it takes a
+/// value. It begins with its own number as the value. Assertions say of each decision that it is the value of a process that
 /// has moved, that it equals every other decision, and that it comes with the last of the own steps
 /// of the process, which are at most those of the plan; and that a process gets only what it judges.
 /// The last byte is a line feed.
@@ -140,7 +143,7 @@ fn push_proctype(text: &mut String, process: u8) -> Result<(), AllocError>
 {
     write!(
         text,
-        "\nactive proctype process_{process}() {{\n    byte value = {process}, response, state;\n"
+        "\nactive proctype process_{process}() {{\n    byte value = {process}, response, saw;\n"
     )
 }
 
@@ -173,7 +176,7 @@ fn push_place(
     push_end(text, plan, process, place)
 }
 
-/// The actions at a place: to write, to apply the operation, to read, and to take a value.
+/// The actions at a place: to write, to apply the operation, to look, and to take a value.
 #[tactic(auto, unfolding(crate::specs::Promela::actions_promela))]
 fn push_actions(
     text: &mut String,
@@ -272,7 +275,7 @@ fn push_row(
     )
 }
 
-/// The action that reads the state, if the processes of the node read it, and the one that takes
+/// The action that looks at the object, if the processes of the node look, and the one that takes
 /// the value of the team that the process judges to have been first.
 fn push_look(text: &mut String, plan: &TreePlan, process: u8, node: u8) -> Result<(), AllocError>
     requires node { node < nodes_of (tree_of plan.now) }
@@ -280,64 +283,131 @@ fn push_look(text: &mut String, plan: &TreePlan, process: u8, node: u8) -> Resul
     ensures { OnOk result (string_bytes text.new
         ≡ string_bytes text.old ++ look_promela plan.now process node) }
 {
-    let reads = plan.meeting(node).reads;
+    let sight = plan.sight(node);
     let judged = plan.judged(node, process);
-    push_read(text, reads, process, node)?;
-    push_take(text, reads, process, node, judged)
+    push_see(text, plan.table(), sight, process, node)?;
+    push_take(text, sight.looks(), process, node, judged)
 }
 
-fn push_read(text: &mut String, reads: bool, process: u8, node: u8) -> Result<(), AllocError>
+fn push_see(
+    text: &mut String,
+    table: &Table,
+    sight: Sight,
+    process: u8,
+    node: u8,
+) -> Result<(), AllocError>
+    requires { IsSightOf table.now (sight_of sight) }
     ensures { OnOk result (string_bytes text.new
-        ≡ string_bytes text.old ++ read_promela reads process node) }
+        ≡ string_bytes text.old ++ see_promela table.now sight process node) }
 {
-    if reads {
-        write!(
-            text,
-            "    atomic {{ ACTION({process}); state = object_{node} }};\n"
-        )
-    } else {
-        Ok(())
+    match sight {
+        Sight::State => push_read(text, process, node),
+        Sight::Nothing => Ok(()),
+        Sight::Response(operation) => push_answers(text, table, operation, process, node),
     }
+}
+
+fn push_read(text: &mut String, process: u8, node: u8) -> Result<(), AllocError>
+    ensures { OnOk result (string_bytes text.new
+        ≡ string_bytes text.old ++ read_promela process node) }
+{
+    write!(
+        text,
+        "    atomic {{ ACTION({process}); saw = object_{node} }};\n"
+    )
+}
+
+/// The action that looks by an operation.
+fn push_answers(
+    text: &mut String,
+    table: &Table,
+    operation: Operation,
+    process: u8,
+    node: u8,
+) -> Result<(), AllocError>
+    requires { operation.0 < length table.now.operations }
+    ensures { OnOk result (string_bytes text.new
+        ≡ string_bytes text.old ++ answers_promela table.now operation.0 process node) }
+{
+    push_selection(text, process)?;
+    push_answer_rows(text, table, operation, node)?;
+    text.push_str(" fi };\n")
+}
+
+#[tactic(auto, using(cn_table::proofs::Lines::lines_more))]
+fn push_answer_rows(
+    text: &mut String,
+    table: &Table,
+    operation: Operation,
+    node: u8,
+) -> Result<(), AllocError>
+    requires { operation.0 < length table.now.operations }
+    ensures { OnOk result (string_bytes text.new ≡ string_bytes text.old
+        ++ flat_map (answer_promela table.now operation.0 node)
+        (range_with_len 0 (length table.now.states))) }
+{
+    for state in 0..table.states() {
+        push_answer(text, table, operation, node, State(state))?;
+    }
+    Ok(())
+}
+
+/// The response of the operation of a look in a state.
+fn push_answer(
+    text: &mut String,
+    table: &Table,
+    operation: Operation,
+    node: u8,
+    state: State,
+) -> Result<(), AllocError>
+    requires operation { operation.0 < length table.now.operations }
+    requires state { state.0 < length table.now.states }
+    ensures { OnOk result (string_bytes text.new
+        ≡ string_bytes text.old ++ answer_promela table.now operation.0 node state.0) }
+{
+    let (response, _) = table.apply(operation, state);
+    let (before, given) = (state.0, response.0);
+    write!(text, " :: object_{node} == {before} -> saw = {given}")
 }
 
 fn push_take(
     text: &mut String,
-    reads: bool,
+    looks: bool,
     process: u8,
     node: u8,
     judged: &[Judged],
 ) -> Result<(), AllocError>
     ensures { OnOk result (string_bytes text.new
-        ≡ string_bytes text.old ++ take_promela reads process node judged.now) }
+        ≡ string_bytes text.old ++ take_promela looks process node judged.now) }
 {
     push_selection(text, process)?;
-    push_judged(text, reads, node, judged)?;
+    push_judged(text, looks, node, judged)?;
     text.push_str(" :: else -> assert(false) fi")
 }
 
 fn push_judged(
     text: &mut String,
-    reads: bool,
+    looks: bool,
     node: u8,
     judged: &[Judged],
 ) -> Result<(), AllocError>
     ensures { OnOk result (string_bytes text.new
-        ≡ string_bytes text.old ++ flat_map (judged_promela reads node) judged.now) }
+        ≡ string_bytes text.old ++ flat_map (judged_promela looks node) judged.now) }
 {
     for entry in judged {
-        push_entry(text, reads, node, *entry)?;
+        push_entry(text, looks, node, *entry)?;
     }
     Ok(())
 }
 
-/// The register that a process takes for a response, and for a state if it is read.
+/// The register that a process takes for a response, and for what it sees if it looks.
 #[tactic(auto, unfolding(crate::specs::Promela::judged_promela))]
-fn push_entry(text: &mut String, reads: bool, node: u8, entry: Judged) -> Result<(), AllocError>
+fn push_entry(text: &mut String, looks: bool, node: u8, entry: Judged) -> Result<(), AllocError>
     ensures { OnOk result (string_bytes text.new
-        ≡ string_bytes text.old ++ judged_promela reads node entry) }
+        ≡ string_bytes text.old ++ judged_promela looks node entry) }
 {
     write!(text, " :: response == {}", entry.response.0)?;
-    push_state(text, reads, entry.state)?;
+    push_saw(text, looks, entry.saw)?;
     push_value(text, node, entry.team)
 }
 
@@ -349,12 +419,12 @@ fn push_value(text: &mut String, node: u8, team: u8) -> Result<(), AllocError>
     write!(text, " -> value = written_{node}_{team}")
 }
 
-fn push_state(text: &mut String, reads: bool, state: State) -> Result<(), AllocError>
+fn push_saw(text: &mut String, looks: bool, saw: u8) -> Result<(), AllocError>
     ensures { OnOk result (string_bytes text.new
-        ≡ string_bytes text.old ++ state_promela reads state.0) }
+        ≡ string_bytes text.old ++ saw_promela looks saw) }
 {
-    if reads {
-        write!(text, " && state == {}", state.0)
+    if looks {
+        write!(text, " && saw == {saw}")
     } else {
         Ok(())
     }

@@ -1,7 +1,7 @@
 //! The lines of the steps of a schedule along a plan tree.
 ghost use Rattle.std.specs.Prelude.{◌≡◌, ◌++◌, string_bytes, IfOk, IfSome, OnOk};
 ghost use Rattle.cn_tree_rounds.specs.Actions.{AreOfTable, IsOfTable};
-ghost use Rattle.cn_tree_text.specs.Steps.{action_text, apply_text, step_line, step_lines, step_text, told_text};
+ghost use Rattle.cn_tree_text.specs.Steps.{action_text, apply_text, look_text, step_line, step_lines, step_text, told_text};
 
 use cn_table::Table;
 use cn_tree_rounds::{Action, StepRecord};
@@ -33,6 +33,23 @@ fn push_apply(
     push_told(lines, team)
 }
 
+/// Appends a look by an operation, with the response, and the team that the process judges.
+fn push_look(
+    lines: &mut String,
+    operation: &str,
+    node: u8,
+    response: &str,
+    team: u8,
+) -> Result<(), AllocError>
+    ensures { OnOk result (string_bytes lines.new
+        ≡ string_bytes lines.old ++ look_text operation.now node response.now team) }
+{
+    write!(
+        lines,
+        "looks by {operation} at node {node}: {response}, team {team}"
+    )
+}
+
 /// Appends an action in words. Its operation, response and state are those of the table.
 fn push_action(lines: &mut String, table: &Table, action: Action) -> Result<(), AllocError>
     requires { IsOfTable table.now action }
@@ -55,6 +72,15 @@ fn push_action(lines: &mut String, table: &Table, action: Action) -> Result<(), 
         Action::Read { node, state, team } => {
             let state = table.state_name(state);
             write!(lines, "reads {state} at node {node}: team {team}")
+        }
+        Action::Look {
+            node,
+            operation,
+            response,
+            team,
+        } => {
+            let operation = table.operation_name(operation);
+            push_look(lines, operation, node, table.response_name(response), team)
         }
         Action::Take { node, team, value } => {
             write!(lines, "takes {value} from team {team} of node {node}")
@@ -92,10 +118,12 @@ fn push_step_line(lines: &mut String, table: &Table, step: StepRecord) -> Result
 ///
 /// - `P: writes V to team g of node N`: process P writes its value V into the register of its team;
 /// - `P: applies O at node N: R`: it applies its operation, and gets the response;
-/// - `P: applies O at node N: R, team g`: the same where it does not read: it judges by the response
+/// - `P: applies O at node N: R, team g`: the same where it does not look: it judges by the response
 ///   that team g came first;
 /// - `P: reads S at node N: team g`: it reads the state of the object, and judges that team g came
 ///   first;
+/// - `P: looks by O at node N: R, team g`: it does the operation O, which changes nothing, gets this
+///   response, and judges that team g came first;
 /// - `P: takes V from team g of node N`: it takes the value of this team's register, and goes on
 ///   with it;
 /// - `P: decides V`: it takes the value at the last node of its path, and decides it;

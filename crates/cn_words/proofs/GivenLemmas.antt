@@ -19,7 +19,7 @@ use Rattle.cn_words.specs.declared.commands.Invocation.TheVariants.{Classify, Li
 use Rattle.cn_words.specs.declared.commands.OpeningWords.{OpeningWords}
 use Rattle.cn_words.specs.declared.commands.TextSource.{TextSource}
 use Rattle.cn_words.specs.declared.without_certificate.RunWords.{RunWords}
-use Rattle.cn_words.specs.GivenCommands.{Finds, HasAnswerForm, HasCertificate, HasDocumentForm, HasFlag, HasForm, HasLimit, HasNumber, HasOpening, HasOptionalNumber, HasPlanTable, HasRun, HasRunTable, HasTables, HasWord, IsByte, IsInvocation, IsNamed, excludes_certificate, is_flag_set, is_limit_excluded, path_in, path_of}
+use Rattle.cn_words.specs.GivenCommands.{Finds, HasAnswerForm, HasCertificate, HasDocumentForm, HasFlag, HasForm, HasLimit, HasNumber, HasOpening, HasOptionalNumber, HasPlanTable, HasRun, HasRunTable, HasTables, HasWord, IsByte, IsInvocation, IsNamed, asks_for_shortest, excludes_certificate, is_flag_set, is_limit_excluded, path_in, path_of}
 
 -- two views of an optional value make their pair
 pub pair_of : {A B C : Type 0} (f : A → B) (g : A → C) (o : Option A) (q : Option (B × C)) → option_map f o ≡ option_map (λ p. p.0) q
@@ -154,12 +154,12 @@ pub classify_wants : (rows : List Row) (i : Invocation) → IsInvocation (codes 
 classify_wants rows (Classify limit recoverable without_read form tables) h = (h.1, (limit, h.2), (form, h.5), (tables, h.6))
 classify_wants rows (OfTable table command) h = absurd (wants (codes "classify") rows command h.arguments)
 classify_wants rows (Lives table words) h = absurd (subst (λ n. MatchBool (bytes_eq n (codes "classify")) (Unit {0}) ⊥) h.0 tt)
-classify_wants rows (ShortestRun table words) h = absurd (subst (λ n. MatchBool (bytes_eq n (codes "classify")) (Unit {0}) ⊥) h.0 tt)
-classify_wants rows (ShortestPlan table processes form) h = absurd (subst (λ n. MatchBool (bytes_eq n (codes "classify")) (Unit {0}) ⊥) h.0 tt)
+classify_wants rows (ShortestRun table without_read words) h = absurd (subst (λ n. MatchBool (bytes_eq n (codes "classify")) (Unit {0}) ⊥) h.0 tt)
+classify_wants rows (ShortestPlan table without_read processes form) h = absurd (subst (λ n. MatchBool (bytes_eq n (codes "classify")) (Unit {0}) ⊥) h.0 tt)
 
 -- what `agree --recoverable` requires of its words
 pub lives_wants : (rows : List Row) (i : Invocation) → is_flag_set (codes "recoverable") rows ≡ true → IsInvocation (codes "agree") rows i
-    → (is_flag_set (codes "shortest") rows ≡ false) × ((t : TextSource) × HasRunTable rows t) × ((w : RunWords) × HasRun rows w)
+    → (asks_for_shortest rows ≡ false) × ((t : TextSource) × HasRunTable rows t) × ((w : RunWords) × HasRun rows w)
 lives_wants rows (Classify limit recoverable without_read form tables) flag h = absurd (subst (λ n. MatchBool (bytes_eq n (codes "agree")) (Unit {0}) ⊥) h.0 tt)
 lives_wants rows (OfTable table command) flag h =
     absurd (go (is_flag_set (codes "recoverable") rows) _ flag (wants (codes "agree") rows command h.arguments).4)
@@ -168,8 +168,8 @@ lives_wants rows (OfTable table command) flag h =
     go true d e h = cc
     go false d e h = cc
 lives_wants rows (Lives table words) flag h = (h.2, (table, h.3), (words, h.4))
-lives_wants rows (ShortestRun table words) flag h = let bad : true ≡ false = sym flag ∙ h.2 in cc
-lives_wants rows (ShortestPlan table processes form) flag h = absurd (subst (λ n. MatchBool (bytes_eq n (codes "agree")) (Unit {0}) ⊥) h.0 tt)
+lives_wants rows (ShortestRun table without_read words) flag h = let bad : true ≡ false = sym flag ∙ h.2 in cc
+lives_wants rows (ShortestPlan table without_read processes form) flag h = absurd (subst (λ n. MatchBool (bytes_eq n (codes "agree")) (Unit {0}) ⊥) h.0 tt)
 
 -- a flag that excludes a certificate is not there beside one
 not_beside : (r s p : Bool) → s ≡ true → (r || (s || p)) ≡ false → ⊥
@@ -177,22 +177,22 @@ not_beside true s p e h = cc
 not_beside false true p e h = cc
 not_beside false false p e h = cc
 
--- what `agree --shortest` requires of its words
-pub run_wants : (rows : List Row) (i : Invocation) → is_flag_set (codes "shortest") rows ≡ true → IsInvocation (codes "agree") rows i
+-- what `agree` requires of the words for a shortest plan
+pub run_wants : (rows : List Row) (i : Invocation) → asks_for_shortest rows ≡ true → IsInvocation (codes "agree") rows i
     → ((t : TextSource) × HasRunTable rows t) × ((w : RunWords) × HasRun rows w)
 run_wants rows (Classify limit recoverable without_read form tables) flag h = absurd (subst (λ n. MatchBool (bytes_eq n (codes "agree")) (Unit {0}) ⊥) h.0 tt)
 run_wants rows (OfTable table command) flag h =
-    absurd (not_beside _ (is_flag_set (codes "shortest") rows) _ flag (wants (codes "agree") rows command h.arguments).4)
+    absurd (not_beside _ (asks_for_shortest rows) _ flag (wants (codes "agree") rows command h.arguments).4)
 run_wants rows (Lives table words) flag h = let bad : true ≡ false = sym flag ∙ h.2 in cc
-run_wants rows (ShortestRun table words) flag h = ((table, h.3), (words, h.4))
-run_wants rows (ShortestPlan table processes form) flag h = absurd (subst (λ n. MatchBool (bytes_eq n (codes "agree")) (Unit {0}) ⊥) h.0 tt)
+run_wants rows (ShortestRun table without_read words) flag h = ((table, h.4), (words, h.5))
+run_wants rows (ShortestPlan table without_read processes form) flag h = absurd (subst (λ n. MatchBool (bytes_eq n (codes "agree")) (Unit {0}) ⊥) h.0 tt)
 
--- what `show --shortest` requires of its words
-pub plan_wants : (rows : List Row) (i : Invocation) → is_flag_set (codes "shortest") rows ≡ true → IsInvocation (codes "show") rows i
+-- what `show` requires of the words for a shortest plan
+pub plan_wants : (rows : List Row) (i : Invocation) → asks_for_shortest rows ≡ true → IsInvocation (codes "show") rows i
     → ((t : TextSource) × HasPlanTable rows t) × ((n : Option ℕ) × HasOptionalNumber (codes "processes") rows n) × ((form : PlanForm) × HasForm rows form)
 plan_wants rows (Classify limit recoverable without_read form tables) flag h = absurd (subst (λ n. MatchBool (bytes_eq n (codes "show")) (Unit {0}) ⊥) h.0 tt)
 plan_wants rows (OfTable table command) flag h =
-    absurd (not_beside _ (is_flag_set (codes "shortest") rows) _ flag (wants (codes "show") rows command h.arguments).2)
+    absurd (not_beside _ (asks_for_shortest rows) _ flag (wants (codes "show") rows command h.arguments).2)
 plan_wants rows (Lives table words) flag h = absurd (subst (λ n. MatchBool (bytes_eq n (codes "show")) (Unit {0}) ⊥) h.0 tt)
-plan_wants rows (ShortestRun table words) flag h = absurd (subst (λ n. MatchBool (bytes_eq n (codes "show")) (Unit {0}) ⊥) h.0 tt)
-plan_wants rows (ShortestPlan table processes form) flag h = ((table, h.2), (processes, h.3), (form, h.4))
+plan_wants rows (ShortestRun table without_read words) flag h = absurd (subst (λ n. MatchBool (bytes_eq n (codes "show")) (Unit {0}) ⊥) h.0 tt)
+plan_wants rows (ShortestPlan table without_read processes form) flag h = ((table, h.3), (processes, h.4), (form, h.5))

@@ -150,8 +150,8 @@ pairs_words forms = command_with (codes "pairs") (table_word ∷ form_option for
 
 abbrev pub show_words : ValueParser → Shape
 show_words forms = command_with (codes "show")
-    (optional_certificate_word ∷ flag (codes "shortest") ∷ processes_option ∷ form_option forms
-    ∷ table_option ∷ file_word ∷ [])
+    (optional_certificate_word ∷ flag (codes "shortest") ∷ flag (codes "without-read")
+    ∷ processes_option ∷ form_option forms ∷ table_option ∷ file_word ∷ [])
 
 abbrev pub draw_words : Shape
 draw_words = command_with (codes "draw") (table_option ∷ file_word ∷ [])
@@ -160,7 +160,8 @@ abbrev pub agree_words : ValueParser → Shape
 agree_words forms = command_with (codes "agree")
     (certificate_word ∷ required_word (codes "INPUTS") ∷ required_word (codes "SCHEDULE")
     ∷ flag (codes "steps") ∷ flag (codes "recoverable") ∷ flag (codes "shortest")
-    ∷ processes_option ∷ form_option forms ∷ table_option ∷ file_word ∷ [])
+    ∷ flag (codes "without-read") ∷ processes_option ∷ form_option forms ∷ table_option
+    ∷ file_word ∷ [])
 
 abbrev pub replay_words : ValueParser → Shape
 replay_words forms = command_with (codes "replay")

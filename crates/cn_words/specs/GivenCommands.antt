@@ -169,10 +169,15 @@ pub record HasPlanTable (rows : List Row) (table : TextSource) : Type 0 where
   pub once :
       (is_some (first_of (codes "table") rows) && is_some (first_of (codes "CERT") rows)) ≡ false
 
+-- whether a shortest plan is asked for: of all plans, or of those without reads
+abbrev pub asks_for_shortest : List Row → Bool
+asks_for_shortest rows =
+    is_flag_set (codes "shortest") rows || is_flag_set (codes "without-read") rows
+
 -- whether a word is there that no command by a certificate has
 abbrev pub excludes_certificate : List Row → Bool
 excludes_certificate rows = is_flag_set (codes "recoverable") rows
-    || (is_flag_set (codes "shortest") rows || is_some (first_of (codes "processes") rows))
+    || (asks_for_shortest rows || is_some (first_of (codes "processes") rows))
 
 -- ---- numbers
 
@@ -263,14 +268,15 @@ IsInvocation name rows (Classify limit recoverable without_read form tables) =
 IsInvocation name rows (OfTable table command) = IsOfTable name rows table command
 IsInvocation name rows (Lives table words) = (name ≡ codes "agree")
     × (is_flag_set (codes "recoverable") rows ≡ true)
-    × (is_flag_set (codes "shortest") rows ≡ false) × HasRunTable rows table × HasRun rows words
-IsInvocation name rows (ShortestRun table words) = (name ≡ codes "agree")
-    × (is_flag_set (codes "shortest") rows ≡ true)
-    × (is_flag_set (codes "recoverable") rows ≡ false) × HasRunTable rows table
+    × (asks_for_shortest rows ≡ false) × HasRunTable rows table × HasRun rows words
+IsInvocation name rows (ShortestRun table without_read words) = (name ≡ codes "agree")
+    × (asks_for_shortest rows ≡ true) × (is_flag_set (codes "recoverable") rows ≡ false)
+    × (without_read ≡ is_flag_set (codes "without-read") rows) × HasRunTable rows table
     × HasRun rows words
-IsInvocation name rows (ShortestPlan table processes form) = (name ≡ codes "show")
-    × (is_flag_set (codes "shortest") rows ≡ true) × HasPlanTable rows table
-    × HasOptionalNumber (codes "processes") rows processes × HasForm rows form
+IsInvocation name rows (ShortestPlan table without_read processes form) = (name ≡ codes "show")
+    × (asks_for_shortest rows ≡ true) × (without_read ≡ is_flag_set (codes "without-read") rows)
+    × HasPlanTable rows table × HasOptionalNumber (codes "processes") rows processes
+    × HasForm rows form
 
 -- the invocation of the parsed command, by the words behind its name
 abbrev pub IsInvocationOf : ArgMatches → Invocation → Type 0

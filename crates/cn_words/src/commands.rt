@@ -2,11 +2,12 @@
 ghost use Rattle.std.specs.Prelude.{◌≡◌, IfOk, MatchResult, codes, false, map, option_map, true};
 ghost use Rattle.clap.specs.Simple.{subcommand_rows_of};
 ghost use Rattle.clap.specs.Walk.{first_of};
-ghost use Rattle.cn_words.specs.GivenCommands.{Finds, HasAnswerForm, HasCertificate, HasDocumentForm, HasForm, HasLimit, HasNumber, HasOpening, HasOptionalNumber, HasTable, HasTables, HasWord, IsInvocation, IsInvocationOf, IsNamed, RefusesCommand, is_flag_set, is_input, is_input_shared, is_limit_excluded, is_table_twice, path_in, path_of, rows_in, table_in};
+ghost use Rattle.cn_words.specs.GivenCommands.{Finds, HasAnswerForm, HasCertificate, HasDocumentForm, HasForm, HasLimit, HasNumber, HasOpening, HasOptionalNumber, HasTable, HasTables, HasWord, IsInvocation, IsInvocationOf, IsNamed, RefusesCommand, asks_for_shortest, is_flag_set, is_input, is_input_shared, is_limit_excluded, is_table_twice, path_in, path_of, rows_in, table_in};
 ghost use Rattle.cn_words.specs.declared.commands.CommandFault.TheVariants.{OutOfMemory};
 
 use crate::without_certificate::{
-    RunWords, excludes_certificate, is_flag_set, plan_table, run_table, run_words,
+    RunWords, asks_for_shortest, excludes_certificate, is_flag_set, plan_table, run_table,
+    run_words,
 };
 use clap::ArgMatches;
 use cn_form::{AnswerForm, DocumentForm, PlanForm};
@@ -177,6 +178,8 @@ pub enum Invocation<'a> {
     ShortestRun {
         /// Where the table is read from.
         table: TextSource<'a>,
+        /// Whether no process of the plan reads.
+        without_read: bool,
         /// The words for the run.
         words: RunWords<'a>,
     },
@@ -184,6 +187,8 @@ pub enum Invocation<'a> {
     ShortestPlan {
         /// Where the table is read from.
         table: TextSource<'a>,
+        /// Whether no process of the plan reads.
+        without_read: bool,
         /// How many processes there are, if a number was given.
         processes: Option<u8>,
         /// The form of the plan.
@@ -588,7 +593,7 @@ fn lives_run<'a>(words: &ArgMatches<'a>) -> Option<Invocation<'a>>
     requires { is_flag_set (codes "recoverable") (rows_in words.now) ≡ true }
     ensures { Finds (IsInvocation (codes "agree") (rows_in words.now)) result }
 {
-    if is_flag_set(words, "shortest") {
+    if asks_for_shortest(words) {
         return None;
     }
     Some(Invocation::Lives {
@@ -597,25 +602,27 @@ fn lives_run<'a>(words: &ArgMatches<'a>) -> Option<Invocation<'a>>
     })
 }
 
-// What `agree --shortest` asks for.
+// What `agree` asks for by a shortest plan.
 fn shortest_run<'a>(words: &ArgMatches<'a>) -> Option<Invocation<'a>>
-    requires shortest { is_flag_set (codes "shortest") (rows_in words.now) ≡ true }
+    requires shortest { asks_for_shortest (rows_in words.now) ≡ true }
     requires lasting { is_flag_set (codes "recoverable") (rows_in words.now) ≡ false }
     ensures { Finds (IsInvocation (codes "agree") (rows_in words.now)) result }
 {
     Some(Invocation::ShortestRun {
         table: run_table(words)?,
+        without_read: is_flag_set(words, "without-read"),
         words: run_words(words)?,
     })
 }
 
-// What `show --shortest` asks for.
+// What `show` asks for by a shortest plan.
 fn shortest_plan<'a>(words: &ArgMatches<'a>) -> Option<Invocation<'a>>
-    requires { is_flag_set (codes "shortest") (rows_in words.now) ≡ true }
+    requires { asks_for_shortest (rows_in words.now) ≡ true }
     ensures { Finds (IsInvocation (codes "show") (rows_in words.now)) result }
 {
     Some(Invocation::ShortestPlan {
         table: plan_table(words)?,
+        without_read: is_flag_set(words, "without-read"),
         processes: optional_number(words, "processes")?,
         form: form(words)?,
     })
@@ -635,10 +642,10 @@ fn invocation_named<'a>(
     if name == "agree" && is_flag_set(words, "recoverable") {
         return Ok(lives_run(words));
     }
-    if name == "agree" && is_flag_set(words, "shortest") {
+    if name == "agree" && asks_for_shortest(words) {
         return Ok(shortest_run(words));
     }
-    if name == "show" && is_flag_set(words, "shortest") {
+    if name == "show" && asks_for_shortest(words) {
         return Ok(shortest_plan(words));
     }
     if is_table_twice(words) || is_input_shared(words) {

@@ -1,8 +1,8 @@
-//! The words of plans without a certificate: `agree --recoverable`, `agree --shortest` and
-//! `show --shortest`.
+//! The words of plans without a certificate: `agree --recoverable`, and of `agree` and `show`
+//! `--shortest` and `--without-read`.
 ghost use Rattle.std.specs.Prelude.{◌≡◌};
 ghost use Rattle.cn_words.specs.GivenCommands.{Finds, HasPlanTable, HasRun, HasRunTable};
-ghost use Rattle.cn_words.specs.GivenCommands.{excludes_certificate, is_flag_set, rows_in};
+ghost use Rattle.cn_words.specs.GivenCommands.{asks_for_shortest, excludes_certificate, is_flag_set, rows_in};
 
 use crate::commands::{TextSource, answer_form, list, optional_number, table_word, word};
 use clap::ArgMatches;
@@ -33,12 +33,19 @@ pub(crate) fn is_flag_set(words: &ArgMatches<'_>, id: &str) -> bool
     }
 }
 
+// Whether a shortest plan is asked for: of all plans, or of those without reads.
+pub(crate) fn asks_for_shortest(words: &ArgMatches<'_>) -> bool
+    ensures { result ≡ asks_for_shortest (rows_in words.now) }
+{
+    is_flag_set(words, "shortest") || is_flag_set(words, "without-read")
+}
+
 // Whether a word is there that no command by a certificate has.
 pub(crate) fn excludes_certificate(words: &ArgMatches<'_>) -> bool
     ensures { result ≡ excludes_certificate (rows_in words.now) }
 {
     is_flag_set(words, "recoverable")
-        || is_flag_set(words, "shortest")
+        || asks_for_shortest(words)
         || word(words, "processes").is_some()
 }
 

@@ -191,7 +191,8 @@ number is what it is. For infinite this is two operations that last: where one p
 and any number of others do the other, the state always tells which came first. Then it writes the
 witness and the counterexamples of the certificate that find writes, as explain does. Where these
 are for fewer processes than the number, it says so. Where any two operations bound the number by
-themselves, it says that in place of the counterexamples; with --all it writes both.
+themselves, it says that in place of the counterexamples; with --all it writes both. Last it writes
+what the plan costs that show --shortest writes: the most own steps of a process, and the objects.
 
 With --limit N, from 2 to 8, finds the certificate of the type up to N as find does, and writes of it
 what explain writes. A search of more than 100000 choices for N processes is refused.
@@ -269,6 +270,12 @@ line with its teams, and for each of its processes a line with its operation, an
 judges to have come first by each response or response/state; and for each process a line with its
 steps and its places. The forms are the same.
 
+With --without-read, beside --shortest or in its place, writes the shortest of the plans of which no
+process reads: at each node all judge by their responses alone, or each looks by one more operation,
+which changes no state, and judges by both responses. Without --processes N is as great as such plans
+allow, up to 8. Where there is none, a protocol of another kind may do without reads: classify
+--without-read tells for how many processes.
+
 ",
     "  cnum show types/test_and_set_at_3.json < types/test_and_set.toml
 writes five lines, the last of which is process 1: node 0 B role 1."
@@ -319,8 +326,10 @@ operation; P: finds nothing in T of node N, where no process of team T has writt
 With --shortest runs the shortest plan, which show --shortest writes, and no process crashes: agree
 --shortest FILE INPUTS SCHEDULE. The type is in FILE, and there is no certificate. The plan is for N
 processes, or without --processes N for as many as the type brings to agreement, up to 8. The lines
-name teams by their numbers, as team 0; where P does not read, P: applies O at node N: R, team T has
-the team that it judges to have come first.
+name teams by their numbers, as team 0; where P does not look, P: applies O at node N: R, team T has
+the team that it judges to have come first. With --without-read, beside --shortest or in its place,
+runs the shortest plan of which no process reads, which show --without-read writes; where P looks by
+an operation O that changes no state, the line is P: looks by O at node N: R, team T.
 
 A list is numbers with a comma and no space between two, at most 65536 of them, or the word none.
 INPUTS are from 0 to 18446744073709551615, one for each process, SCHEDULE is processes from 0 on.
@@ -623,10 +632,12 @@ fn show<'a>(alloc: Global) -> Result<Command<'a>, AllocError>
     ensures { IfOk result (IsCommandFor plan_forms show_words) }
 {
     let shortest = "Writes the shortest plan, with no certificate: CERT is the table";
+    let without_read = "Writes the shortest plan of which no process reads";
     let help = "The form in which the plan is written";
     let command = bare_command(alloc, "show", SHOW_ABOUT, SHOW_AFTER);
     let command = with_argument(Ok(command), optional_certificate(alloc));
     let command = with_argument(command, flag(alloc, "shortest", shortest));
+    let command = with_argument(command, flag(alloc, "without-read", without_read));
     let command = with_argument(command, processes(alloc));
     let command = with_argument(command, form(alloc, &PLAN_FORMS, help));
     with_table(alloc, command)
@@ -647,6 +658,7 @@ fn agree<'a>(alloc: Global) -> Result<Command<'a>, AllocError>
     let steps = "Tells what each step does, before the decisions";
     let crashes = "Lets processes crash: CERT is the table, and a cP in SCHEDULE a crash";
     let shortest = "Runs the shortest plan, with no certificate: CERT is the table";
+    let without_read = "Runs the shortest plan of which no process reads";
     let help = "The form in which the run is written";
     let command = with_certificate(alloc, "agree", AGREE_ABOUT, AGREE_AFTER);
     let command = with_argument(command, required_word(alloc, "INPUTS", inputs));
@@ -654,6 +666,7 @@ fn agree<'a>(alloc: Global) -> Result<Command<'a>, AllocError>
     let command = with_argument(command, flag(alloc, "steps", steps));
     let command = with_argument(command, flag(alloc, "recoverable", crashes));
     let command = with_argument(command, flag(alloc, "shortest", shortest));
+    let command = with_argument(command, flag(alloc, "without-read", without_read));
     let command = with_argument(command, processes(alloc));
     let command = with_argument(command, form(alloc, &ANSWER_FORMS, help));
     with_table(alloc, command)

@@ -1,5 +1,5 @@
 -- What the program does with a command: what becomes of its streams, and how it ends.
-use Rattle.std.specs.Prelude.{◌≡◌, ℕ, List, Option, Result}
+use Rattle.std.specs.Prelude.{◌≡◌, ℕ, Bool, List, Option, Result}
 use Rattle.cn_words.specs.declared.commands.Command.{Command}
 use Rattle.cn_words.specs.declared.commands.Invocation.{Invocation}
 use Rattle.cn_words.specs.declared.commands.Invocation.TheVariants.{Classify, Lives, OfTable}
@@ -11,6 +11,7 @@ use Rattle.cn_io.specs.Streams.Writing.{IsUnwritten}
 use Rattle.cn_io.specs.declared.fault.AppFault.{AppFault}
 use Rattle.cn_io.specs.declared.report.Outcome.{Outcome}
 use Rattle.cn_app.specs.declared.reports.classify.AskedNumbers.{AskedNumbers}
+use Rattle.cn_app.specs.declared.reports.shortest.AskedPlan.{AskedPlan}
 use Rattle.cn_io.specs.declared.streams.output.Output.{Output}
 use Rattle.cnum.specs.Exits.{classify_status, command_status}
 use Rattle.cnum.specs.LivesRuns.{RunsLives}
@@ -41,16 +42,17 @@ module _ {S F D W : Type 0} (remaining : S → Option (List ℕ)) (left : LazyFi
       × (status ≡ command_status end)
 
   -- the shortest plan was run by a schedule, with the status of the result
-  abbrev pub RunsShortestPlans : S → TextSource → RunWords → Output W → Output W → ℕ → Type 0
-  RunsShortestPlans stdin table words u v status = (end : Result Outcome AppFault)
-      × RunsShortest remaining left contents files stdin table words u v end
+  abbrev pub RunsShortestPlans : S → TextSource → Bool → RunWords → Output W → Output W → ℕ
+      → Type 0
+  RunsShortestPlans stdin table without_read words u v status = (end : Result Outcome AppFault)
+      × RunsShortest remaining left contents files stdin table without_read words u v end
       × (status ≡ command_status end)
 
   -- the shortest plan was written, with the status of the result
-  abbrev pub ShowsShortestPlans : S → TextSource → Option ℕ → PlanForm → Output W → Output W
+  abbrev pub ShowsShortestPlans : S → TextSource → AskedPlan → PlanForm → Output W → Output W
       → ℕ → Type 0
-  ShowsShortestPlans stdin table processes form u v status = (end : Result Outcome AppFault)
-      × ShowsShortest remaining left contents files stdin table processes form u v end
+  ShowsShortestPlans stdin table asked form u v status = (end : Result Outcome AppFault)
+      × ShowsShortest remaining left contents files stdin table asked form u v end
       × (status ≡ command_status end)
 
   -- the tables of these sources were classified for the numbers asked for, and the exit status is
@@ -75,9 +77,11 @@ module _ {S F D W : Type 0} (remaining : S → Option (List ℕ)) (left : LazyFi
       }) tables.items u v status
   Does stdin (OfTable table command) u v status = RunsOne stdin table command u v status
   Does stdin (Lives table words) u v status = RunsPlans stdin table words u v status
-  Does stdin (ShortestRun table words) u v status = RunsShortestPlans stdin table words u v status
-  Does stdin (ShortestPlan table processes form) u v status =
-      ShowsShortestPlans stdin table processes form u v status
+  Does stdin (ShortestRun table without_read words) u v status =
+      RunsShortestPlans stdin table without_read words u v status
+  Does stdin (ShortestPlan table without_read processes form) u v status =
+      ShowsShortestPlans stdin table
+      (record { processes = processes; without_read = without_read }) form u v status
 
 -- in the same terms: the command was done with these streams, of which nothing was used before, and
 -- the writer is handed back as the command left it; a reader over standard input read the command's

@@ -1,11 +1,12 @@
 -- What the commands of the shortest plan read and write, by the words for them.
-use Rattle.std.specs.Prelude.{◌≡◌, ◌⊎◌, ℕ, List, Option, Result}
+use Rattle.std.specs.Prelude.{◌≡◌, ◌⊎◌, ℕ, Bool, List, Option, Result}
 use Rattle.cn_form.specs.declared.plan_form.PlanForm.{PlanForm}
 use Rattle.cn_words.specs.declared.commands.TextSource.{TextSource}
 use Rattle.cn_words.specs.declared.without_certificate.RunWords.{RunWords}
 use Rattle.cn_app.specs.Commands.Agree.{SpellLists}
 use Rattle.cn_app.specs.Commands.AgreeShortest.{HasAgreeShortestReport}
 use Rattle.cn_app.specs.Commands.ShowShortest.{HasShowShortestReport}
+use Rattle.cn_app.specs.declared.reports.shortest.AskedPlan.{AskedPlan}
 use Rattle.cn_io.specs.Streams.Reading.{HasRead}
 use Rattle.cn_io.specs.Streams.Writing.{Reports}
 use Rattle.cn_io.specs.declared.arguments.list_text.ListText.{ListText}
@@ -27,29 +28,30 @@ module _ {S D F W : Type 0} (remaining : S → Option (List ℕ)) (left : LazyFi
     (files : List ℕ → Option (List ℕ)) where
   -- the table of this source was read, of which nothing was read before, and the report on its
   -- shortest plan was written
-  pub record ShowsShortest (stdin : S) (source : TextSource) (processes : Option ℕ)
+  pub record ShowsShortest (stdin : S) (source : TextSource) (asked : AskedPlan)
       (form : PlanForm) (u v : Output W) (r : Result Outcome AppFault) : Type 0 where
     pub table : Text (TextReader S D F)
     pub after : Text (TextReader S D F)
     pub text : IsTextFrom left files stdin source table
     pub read : HasRead Table (left_of remaining left) table after
-    pub reported : Reports contents (HasShowShortestReport after processes form) u v r
+    pub reported : Reports contents (HasShowShortestReport after asked form) u v r
 
   -- the same of a run of the plan, unless the lists have a fault
-  pub record RunsShortestPlan (stdin : S) (source : TextSource) (inputs schedule : ListText)
-      (words : RunWords) (u v : Output W) (r : Result Outcome AppFault) : Type 0 where
+  pub record RunsShortestPlan (stdin : S) (source : TextSource) (without_read : Bool)
+      (inputs schedule : ListText) (words : RunWords) (u v : Output W) (r : Result Outcome AppFault) : Type 0 where
     pub table : Text (TextReader S D F)
     pub after : Text (TextReader S D F)
     pub text : IsTextFrom left files stdin source table
     pub read : HasRead Table (left_of remaining left) table after
     pub order : (after ≡ table) ⊎ SpellLists inputs schedule
-    pub reported : Reports contents (HasAgreeShortestReport after inputs schedule words.processes
+    pub reported : Reports contents (HasAgreeShortestReport after inputs schedule
+        (record { processes = words.processes; without_read = without_read })
         (record { steps = words.steps; form = words.form })) u v r
 
   -- the lists are read first, from left to right
-  abbrev pub RunsShortest : S → TextSource → RunWords → Output W → Output W
+  abbrev pub RunsShortest : S → TextSource → Bool → RunWords → Output W → Output W
       → Result Outcome AppFault → Type 0
-  RunsShortest stdin source words u v r =
+  RunsShortest stdin source without_read words u v r =
       ReadsList {R = S} {C = S} remaining remaining left contents files words.inputs.now Inputs
       (λ xs. ReadsList {R = S} {C = S} remaining remaining left contents files words.schedule.now
-      Schedule (λ ps. RunsShortestPlan stdin source xs ps words)) u v r
+      Schedule (λ ps. RunsShortestPlan stdin source without_read xs ps words)) u v r

@@ -100,3 +100,14 @@ pub fn known_of_processes<'a>(table: TextSource<'a>, processes: Option<u8>) -> K
     known.processes = processes;
     known
 }
+
+/// What is known of a command of a shortest plan: the same, and whether no process is to read.
+pub fn known_of_plan<'a>(
+    table: TextSource<'a>,
+    processes: Option<u8>,
+    without_read: bool,
+) -> Known<'a> {
+    let mut known = known_of_processes(table, processes);
+    known.without_read = without_read;
+    known
+}

@@ -24,12 +24,12 @@ mod text_reader;
 
 use awaited_input::{AwaitedInput, FirstRead};
 use cn_app::commands::Tell;
-use cn_app::reports::AskedNumbers;
+use cn_app::reports::{AskedNumbers, AskedPlan};
 use cn_app::{AppFault, Known, Outcome, Output};
 use cn_form::PlanForm;
 use cn_words::{CommandFault, Invocation, Reply, RunWords, TextSource};
 use disk::Disk;
-use faults::{Faults, known_of, known_of_processes};
+use faults::{Faults, known_of, known_of_plan, known_of_processes};
 use lives_run::run_lives;
 use pipe_writer::{PipeWriter, is_broken_pipe};
 use runs::{classify, run};
@@ -98,15 +98,25 @@ fn do_shortest_run<T: Disk + Eprint, I: Read + Copy + Drop, O: Write>(
     output: &mut Output<O>,
     faults: &mut Faults<'_, T>,
     table: TextSource<'_>,
+    without_read: bool,
     words: RunWords<'_>,
 ) -> ExitCode
     requires { IsWritable output.old }
     ensures { RunsShortestPlans I.remaining (left_in T.contents T.Reader.remaining) O.contents
-        (T.contents rt.now) stdin table.entry words.entry output.old output.new
+        (T.contents rt.now) stdin table.entry without_read words.entry output.old output.new
         (exit_status result) }
 {
-    let mut known = known_of_processes(table, words.processes);
-    let end = run_shortest(rt, alloc, stdin, output, table, words, &mut known);
+    let mut known = known_of_plan(table, words.processes, without_read);
+    let end = run_shortest(
+        rt,
+        alloc,
+        stdin,
+        output,
+        table,
+        without_read,
+        words,
+        &mut known,
+    );
     command_exit(faults, end, &known)
 }
 
@@ -118,16 +128,16 @@ fn do_shortest_plan<T: Disk + Eprint, I: Read + Copy + Drop, O: Write>(
     output: &mut Output<O>,
     faults: &mut Faults<'_, T>,
     table: TextSource<'_>,
-    processes: Option<u8>,
+    asked: AskedPlan,
     form: PlanForm,
 ) -> ExitCode
     requires { IsWritable output.old }
     ensures { ShowsShortestPlans I.remaining (left_in T.contents T.Reader.remaining) O.contents
-        (T.contents rt.now) stdin table.entry processes form output.old output.new
+        (T.contents rt.now) stdin table.entry asked form output.old output.new
         (exit_status result) }
 {
-    let mut known = known_of_processes(table, processes);
-    let end = show_shortest(rt, alloc, stdin, output, table, processes, form, &mut known);
+    let mut known = known_of_plan(table, asked.processes, asked.without_read);
+    let end = show_shortest(rt, alloc, stdin, output, table, asked, form, &mut known);
     command_exit(faults, end, &known)
 }
 
@@ -171,14 +181,32 @@ fn do_command<T: Threads + Wait + Sync + Disk + Eprint, I: Read + Copy + Drop, O
             let end = run_lives(rt, alloc, stdin, output, *table, *words, &mut known);
             command_exit(faults, end, &known)
         }
-        Invocation::ShortestRun { table, words } => {
-            do_shortest_run(rt, alloc, stdin, output, faults, *table, *words)
-        }
+        Invocation::ShortestRun {
+            table,
+            without_read,
+            words,
+        } => do_shortest_run(
+            rt,
+            alloc,
+            stdin,
+            output,
+            faults,
+            *table,
+            *without_read,
+            *words,
+        ),
         Invocation::ShortestPlan {
             table,
+            without_read,
             processes,
             form,
-        } => do_shortest_plan(rt, alloc, stdin, output, faults, *table, *processes, *form),
+        } => {
+            let asked = AskedPlan {
+                processes: *processes,
+                without_read: *without_read,
+            };
+            do_shortest_plan(rt, alloc, stdin, output, faults, *table, asked, *form)
+        }
     }
 }
 

@@ -40,7 +40,7 @@ fn explain<R: Print>(rt: &R, alloc: Global, table: Table, certificate: Certifica
 {
     let number = TypeNumber::UpTo(certificate.limit, certificate.number);
     let explanation = Explanation::new(alloc, table, certificate, number, None, false)?;
-    print!(rt; "{}", explanation_of(alloc, &explanation)?)?;
+    print!(rt; "{}", explanation_of(alloc, &explanation, None)?)?;
     print!(rt; "{}", diagram_of(alloc, &explanation.table)?)?;
     Ok(())
 }

@@ -1,39 +1,52 @@
--- The shortest plan for a number of processes.
-use Rattle.std.proofs.Common.{arith, ◌≡◌, ◌<◌, ◌≤◌, ◌+◌, ◌-◌, ℕ, Option, Some, None, false, inl, inr, refl, subst, sym, true}
-use Rattle.std.specs.Prelude.{IfSome, ◌↔◌}
-use Rattle.std.specs.Option.{IsSome}
-use Rattle.std.proofs.lemmas.Bool.{cases_eq}
+-- The shortest plans for the most processes, and what they cost.
+use Rattle.std.proofs.Common.{arith, ◌≡◌, ℕ, Option, Some, None, ap, subst}
 use Rattle.cn_table.specs.TypeTable.{TypeTable}
-use Rattle.cn_choice.specs.declared.limits.TheConstants.{MOST_PROCESSES}
 use Rattle.cn_finding.specs.declared.limits.TheConstants.{GREATEST_LIMIT}
+use Rattle.cn_shortest.specs.Greatest.{IsGreatestCostFound, IsGreatestPlanFound}
+use Rattle.cn_shortest.specs.Looks.{allowed}
+use Rattle.cn_shortest.specs.declared.looks.Looks.{Looks}
+use Rattle.cn_shortest.specs.declared.looks.Looks.TheVariants.{AtStates}
+use Rattle.cn_tree_costs.specs.Cost as plans
 use Rattle.cn_tree_costs.specs.Cost.{IsLeastPlan}
 use Rattle.cn_tree_plans.specs.Plan.{TreePlan, tree_of}
-use Rattle.cn_shortest.specs.Costs.{two_sights}
-use Rattle.cn_io.specs.Arguments.Lives.{CanBe}
-use Rattle.cn_app.specs.Commands.Shortest.{HasPlanTree, IsCount, IsShortestPlan}
+use Rattle.cn_tree_plans.specs.declared.plan.Cost.{Cost}
+use Rattle.cn_app.specs.Commands.Shortest.{HasNoPlan, IsShortestPlan}
+use Rattle.cn_app.specs.Commands.ShortestCost.{IsShortestCost}
 
 -- the plan that was found is the shortest one
-pub found_for : (t : TypeTable) (given : Option ℕ) (n : ℕ) (found : Option TreePlan) (plan : TreePlan) → found ≡ Some plan
-    → IfSome found (λ p. IsLeastPlan t two_sights n (tree_of p)) → CanBe n → IsCount t given n → IsShortestPlan t given plan
-found_for t given n None plan is least possible count = cc
-found_for t given n (Some p) plan is least possible count =
+pub most_found : (t : TypeTable) (looks : Looks) (found : Option TreePlan) (plan : TreePlan) → found ≡ Some plan
+    → IsGreatestPlanFound t (allowed looks) GREATEST_LIMIT found → IsShortestPlan t looks None plan
+most_found t looks None plan is h = cc
+most_found t looks (Some p) plan is h =
     let same : p ≡ plan = cc in
-    record { processes = n; possible = possible; count = count; least = subst (λ (q : TreePlan). IsLeastPlan t two_sights n (tree_of q)) same least }
+    record {
+      processes = h.processes;
+      possible = (h.count.some, omega (arith, h.count.within));
+      count = λ m more few. h.count.greatest m more (omega (arith, few));
+      least = subst (λ (q : TreePlan). IsLeastPlan t (allowed looks) h.processes (tree_of q)) same h.least;
+    }
 
 -- none was found, and there is none
-pub none_for : (t : TypeTable) (n : ℕ) (found : Option TreePlan) → ((p : TreePlan) → found ≡ Some p → ⊥) → (IsSome found ↔ HasPlanTree t n) → ¬ HasPlanTree t n
-none_for t n None none some = λ T. let bad : false ≡ true = some.1 T in cc
-none_for t n (Some p) none some = absurd (none p refl)
+pub none_found : (t : TypeTable) (looks : Looks) (found : Option TreePlan) → found ≡ None → IsGreatestPlanFound t (allowed looks) GREATEST_LIMIT found → HasNoPlan t looks None
+none_found t looks None is h = λ n possible. h n possible.0 (omega (arith, possible.1))
+none_found t looks (Some p) is h = cc
 
--- the numbers from the greatest one down to 2 are possible
-pub can_be : (less : ℕ) → less < GREATEST_LIMIT - 1 → CanBe (GREATEST_LIMIT - less)
-can_be less small = (omega arith, omega arith)
+-- the cost that was found is that of the shortest plan
+pub cost_found : (t : TypeTable) (found : Option (ℕ × Cost)) (most : ℕ × Cost) → found ≡ Some most → IsGreatestCostFound t (allowed AtStates) GREATEST_LIMIT found
+    → IsShortestCost t (record { processes = most.0; steps = most.1.steps; objects = most.1.nodes })
+cost_found t None most is h = cc
+cost_found t (Some c) most is h =
+    let same : c ≡ most = cc in
+    subst (λ (d : ℕ × Cost). IsShortestCost t (record { processes = d.0; steps = d.1.steps; objects = d.1.nodes })) same (record {
+      possible = (h.count.some, omega (arith, h.count.within));
+      count = λ m more few. h.count.greatest m more (omega (arith, few));
+      tree = h.tree;
+      least = h.least;
+      steps = ap (λ (x : plans.Cost). x.steps) h.cost_is;
+      objects = ap (λ (x : plans.Cost). x.nodes) h.cost_is;
+    })
 
--- with one number more there is no plan tree for still more processes
-pub none_above : (t : TypeTable) (less : ℕ) → less < GREATEST_LIMIT - 1
-    → ((m : ℕ) → GREATEST_LIMIT - less < m → m ≤ MOST_PROCESSES → ¬ HasPlanTree t m) → ¬ HasPlanTree t (GREATEST_LIMIT - less)
-    → (m : ℕ) → GREATEST_LIMIT - (less + 1) < m → m ≤ MOST_PROCESSES → ¬ HasPlanTree t m
-none_above t less small above here m more few = elim (cases_eq m (GREATEST_LIMIT - less)) [
-  | inl same ↦ subst (λ k. ¬ HasPlanTree t k) (sym same) here
-  | inr other ↦ above m (omega (arith, other, more)) few
-]
+-- none was found, and there is no plan tree
+pub no_cost_found : (t : TypeTable) (found : Option (ℕ × Cost)) → found ≡ None → IsGreatestCostFound t (allowed AtStates) GREATEST_LIMIT found → HasNoPlan t AtStates None
+no_cost_found t None is h = λ n possible. h n possible.0 (omega (arith, possible.1))
+no_cost_found t (Some c) is h = cc

@@ -1,6 +1,6 @@
--- What `agree --shortest` writes: a function of the plan, the inputs, the schedule and what is asked
+-- What `agree` writes of a shortest plan: a function of the plan, the inputs, the schedule and what is asked
 -- for.
-use Rattle.std.specs.Prelude.{◌≡◌, ◌⊎◌, ◌++◌, ℕ, Bool, if◌then◌else◌, List, [], None, Option}
+use Rattle.std.specs.Prelude.{◌≡◌, ◌⊎◌, ◌++◌, ℕ, Bool, if◌then◌else◌, List, [], None}
 use Rattle.std.specs.Prelude.{Result, Ok, Err, IsSomeAnd, codes, false, string_bytes, true}
 use Rattle.serde_json.specs.Data.{Data}
 use Rattle.serde_json.specs.Written.{compact_text}
@@ -28,6 +28,7 @@ use Rattle.cn_io.specs.declared.fault.AppFault.TheVariants.{OutOfMemory, Schedul
 use Rattle.cn_app.specs.Commands.Shortest.{GivesShortestPlan}
 use Rattle.cn_app.specs.Forms.{if_json}
 use Rattle.cn_app.specs.declared.reports.agree.AskedRun.{AskedRun}
+use Rattle.cn_app.specs.declared.reports.shortest.AskedPlan.{AskedPlan}
 
 -- the lines of the steps of the schedule, if they are asked for
 abbrev pub lines_of_tree_steps : TreePlan → List ℕ → List ℕ → Bool → List ℕ
@@ -67,14 +68,14 @@ IsTreeRunReport plan inputs schedule asked (Err e) = (e ≡ OutOfMemory)
     (λ fault. e ≡ plain_of (Schedule fault))
 
 -- the same for the shortest plan of the table
-abbrev pub IsAgreeShortestReport : TypeTable → Option ℕ → List ℕ → List ℕ → AskedRun
+abbrev pub IsAgreeShortestReport : TypeTable → AskedPlan → List ℕ → List ℕ → AskedRun
     → Result Report AppFault → Type 0
-IsAgreeShortestReport t processes inputs schedule asked r =
-    Then (GivesShortestPlan t processes) (λ plan. IsTreeRunReport plan inputs schedule asked) r
+IsAgreeShortestReport t which inputs schedule asked r =
+    Then (GivesShortestPlan t which) (λ plan. IsTreeRunReport plan inputs schedule asked) r
 
--- the result of `agree --shortest` for a text and two lists: the lists are read first
-abbrev pub HasAgreeShortestReport : {R : Type 0} → Text R → ListText → ListText → Option ℕ
+-- the result of `agree` on a shortest plan for a text and two lists: the lists are read first
+abbrev pub HasAgreeShortestReport : {R : Type 0} → Text R → ListText → ListText → AskedPlan
     → AskedRun → Result Report AppFault → Type 0
-HasAgreeShortestReport table inputs schedule processes asked r = Then (GivesLists inputs schedule)
+HasAgreeShortestReport table inputs schedule which asked r = Then (GivesLists inputs schedule)
     (λ lists. Then (GivesTable table)
-    (λ t. IsAgreeShortestReport t processes lists.inputs.items lists.schedule.items asked)) r
+    (λ t. IsAgreeShortestReport t which lists.inputs.items lists.schedule.items asked)) r

@@ -1,5 +1,5 @@
--- What `show --shortest` writes: a function of the plan and of the form.
-use Rattle.std.specs.Prelude.{◌≡◌, ◌++◌, ℕ, List, Option, Result, Ok, Err, codes, string_bytes}
+-- What `show` writes of a shortest plan: a function of the plan and of the form.
+use Rattle.std.specs.Prelude.{◌≡◌, ◌++◌, ℕ, List, Result, Ok, Err, codes, string_bytes}
 use Rattle.serde_json.specs.Written.{compact_text}
 use Rattle.cn_table.specs.TypeTable.{TypeTable}
 use Rattle.cn_tree_plans.specs.Plan.{TreePlan}
@@ -18,6 +18,7 @@ use Rattle.cn_io.specs.declared.streams.text.Text.{Text}
 use Rattle.cn_io.specs.declared.fault.AppFault.{AppFault}
 use Rattle.cn_io.specs.declared.fault.AppFault.TheVariants.{OutOfMemory}
 use Rattle.cn_app.specs.Commands.Shortest.{GivesShortestPlan}
+use Rattle.cn_app.specs.declared.reports.shortest.AskedPlan.{AskedPlan}
 
 -- the text of a plan tree in each of its forms
 abbrev pub tree_text : PlanForm → TreePlan → List ℕ
@@ -35,12 +36,12 @@ IsTreeReport plan form (Ok report) =
 IsTreeReport plan form (Err e) = e ≡ OutOfMemory
 
 -- the same for the shortest plan of the table
-abbrev pub IsShowShortestReport : TypeTable → Option ℕ → PlanForm → Result Report AppFault → Type 0
-IsShowShortestReport t processes form r =
-    Then (GivesShortestPlan t processes) (λ plan. IsTreeReport plan form) r
+abbrev pub IsShowShortestReport : TypeTable → AskedPlan → PlanForm → Result Report AppFault → Type 0
+IsShowShortestReport t asked form r =
+    Then (GivesShortestPlan t asked) (λ plan. IsTreeReport plan form) r
 
--- the result of `show --shortest` for a text
-abbrev pub HasShowShortestReport : {R : Type 0} → Text R → Option ℕ → PlanForm
+-- the result of `show` on a shortest plan for a text
+abbrev pub HasShowShortestReport : {R : Type 0} → Text R → AskedPlan → PlanForm
     → Result Report AppFault → Type 0
-HasShowShortestReport table processes form r =
-    Then (GivesTable table) (λ t. IsShowShortestReport t processes form) r
+HasShowShortestReport table asked form r =
+    Then (GivesTable table) (λ t. IsShowShortestReport t asked form) r

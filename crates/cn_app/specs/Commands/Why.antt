@@ -12,9 +12,11 @@ use Rattle.cn_cert.specs.Certificate.{Certificate}
 use Rattle.cn_reasons.specs.Explanation.{Explains}
 use Rattle.cn_reasons.specs.declared.explanation.Explanation.{Explanation}
 use Rattle.cn_reasons.specs.declared.numbers.TypeNumber.TheVariants.{Exact}
+use Rattle.cn_sentences.specs.declared.shortest.ShortestCost.{ShortestCost}
 use Rattle.cn_form.specs.declared.answer_form.DocumentForm.{DocumentForm}
 use Rattle.cn_app.specs.Commands.Explain.{explanation_in, IsExplainReport}
 use Rattle.cn_app.specs.Commands.Find.{GivesFound, IsFoundCertificate, IsLimitFor}
+use Rattle.cn_app.specs.Commands.ShortestCost.{TellsShortest}
 use Rattle.cn_io.specs.Steps.{Then}
 use Rattle.cn_io.specs.Texts.Contents.{GivesTable}
 use Rattle.cn_io.specs.declared.report.Outcome.TheVariants.{Whole}
@@ -43,12 +45,15 @@ pub record ExplainsNumber (t : TypeTable) (all : Bool) (e : Explanation) : Type 
   pub is_lasting : MatchOption lasting (NoneLast t) (IsLasting t)
   pub explains : Explains t certificate (Exact number) lasting all e
 
--- the text tells the number of the table with no limit and the reasons for it, in a form
+-- the text tells the number of the table with no limit, the reasons for it, and how short protocols
+-- get, in a form
 pub record HasReasonsFor (t : TypeTable) (all : Bool) (told : DocumentForm) (text : List ℕ)
     : Type 0 where
   pub explanation : Explanation
   pub explains : ExplainsNumber t all explanation
-  pub written : text ≡ explanation_in told explanation
+  pub shortest : Option ShortestCost
+  pub is_shortest : TellsShortest t shortest
+  pub written : text ≡ explanation_in told explanation shortest
 
 -- the result of `why` for a table with no limit; the only fault is want of memory
 abbrev pub IsReasonsReport : TypeTable → Bool → DocumentForm → Result Report AppFault → Type 0

@@ -6,7 +6,7 @@ ghost use Rattle.cn_app.specs.Commands.ShowShortest.{HasShowShortestReport};
 ghost use Rattle.cn_io.specs.Streams.Reading.{HasRead, IsUnread};
 ghost use Rattle.cn_io.specs.Streams.Writing.{IsWritable, Reports};
 
-use crate::reports::{AskedRun, agree_shortest_report, show_shortest_report};
+use crate::reports::{AskedPlan, AskedRun, agree_shortest_report, show_shortest_report};
 use cn_form::PlanForm;
 use cn_io::readers::read_table;
 use cn_io::{AppFault, ListText, Outcome, Output, Source, Text, read_run_lists};
@@ -22,7 +22,7 @@ pub fn show_shortest<R: Read, W: Write>(
     alloc: Global,
     table: &mut Text<R>,
     output: &mut Output<W>,
-    processes: Option<u8>,
+    asked: AskedPlan,
     form: PlanForm,
 ) -> Result<Outcome, AppFault>
     requires table { IsUnread table.old }
@@ -31,11 +31,11 @@ pub fn show_shortest<R: Read, W: Write>(
     ensures read { HasRead Source.Table R.remaining table.old table.new }
     // promise: shortest-plan-by-show (HasShowShortestReport: GivesShortestPlan: HasNoPlan,
     //     IsShortestPlan: count, least; tree_text)
-    ensures shown { Reports W.contents (HasShowShortestReport table.new processes form)
+    ensures shown { Reports W.contents (HasShowShortestReport table.new asked form)
         output.old output.new result }
 {
     let table = read_table(alloc, table)?;
-    output.report(show_shortest_report(alloc, &table, processes, form))
+    output.report(show_shortest_report(alloc, &table, asked, form))
 }
 
 /// Reads a type table, and runs its shortest plan under a schedule ([`agree_shortest_report`]).
@@ -57,7 +57,7 @@ pub fn agree_shortest<R: Read, W: Write>(
     output: &mut Output<W>,
     inputs: &ListText<'_>,
     schedule: &ListText<'_>,
-    processes: Option<u8>,
+    plan: AskedPlan,
     asked: AskedRun,
 ) -> Result<Outcome, AppFault>
     requires table { IsUnread table.old }
@@ -69,17 +69,10 @@ pub fn agree_shortest<R: Read, W: Write>(
     // promise: shortest-plan-by-agree (HasAgreeShortestReport: GivesShortestPlan, IsTreeAgreed: run,
     //     consensus, written, lines_of_tree_steps, tree_run_text, tree_run_data)
     ensures agreed { Reports W.contents
-        (HasAgreeShortestReport table.new inputs.now schedule.now processes asked)
+        (HasAgreeShortestReport table.new inputs.now schedule.now plan asked)
         output.old output.new result }
 {
     let lists = read_run_lists(alloc, inputs, schedule)?;
     let table = read_table(alloc, table)?;
-    output.report(agree_shortest_report(
-        alloc,
-        &table,
-        processes,
-        &lists.inputs,
-        &lists.schedule,
-        asked,
-    ))
+    output.report(agree_shortest_report(alloc, &table, plan, &lists.inputs, &lists.schedule, asked))
 }

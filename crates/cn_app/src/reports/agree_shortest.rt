@@ -1,4 +1,4 @@
-//! The report of `agree --shortest`.
+//! The report of `agree` on a shortest plan.
 ghost use Rattle.std.specs.Prelude.{◌≡◌, ◌++◌, IfOk, codes, false, string_bytes, true};
 ghost use Rattle.serde_json.specs.Written.{compact_text};
 ghost use Rattle.cn_plan_text.specs.Decisions.{decision_lines};
@@ -9,7 +9,7 @@ ghost use Rattle.cn_app.specs.Commands.AgreeShortest.{IsAgreeShortestReport, IsT
 ghost use Rattle.cn_app.specs.Forms.{if_json};
 
 use crate::reports::agree::{AskedRun, decision_text};
-use crate::reports::shortest::plan_for;
+use crate::reports::shortest::{AskedPlan, plan_for};
 use cn_form::AnswerForm;
 use cn_io::{AppFault, Report, with_line_feed};
 use cn_json::tree_course_json;
@@ -74,9 +74,9 @@ fn tree_steps_report(
 }
 
 /// Runs the shortest plan of the table under a schedule, for as many processes as asked for, or for
-/// the most for which there is a plan tree. The report has a line for each process: its decision, or
-/// that it has none. With the steps, a line for each step comes first. As JSON it is one value with
-/// the decisions ([`decisions_json`](cn_json::decisions_json)), or with these and the steps
+/// the most for which there is a plan tree; of all such plans, or of those whose processes do not
+/// read. The report has a line for each process: its decision, or that it has none. With the steps, a
+/// line for each step comes first. As JSON it is one value with the decisions ([`decisions_json`](cn_json::decisions_json)), or with these and the steps
 /// ([`tree_course_json`]).
 ///
 /// Under every schedule, all processes that decide choose the same value: the input of a process in
@@ -92,14 +92,14 @@ fn tree_steps_report(
 pub fn agree_shortest_report(
     alloc: Global,
     table: &Table,
-    processes: Option<u8>,
+    plan: AskedPlan,
     inputs: &[u64],
     schedule: &[u8],
     asked: AskedRun,
 ) -> Result<Report, AppFault>
-    ensures { IsAgreeShortestReport table.now processes inputs.now schedule.now asked result }
+    ensures { IsAgreeShortestReport table.now plan inputs.now schedule.now asked result }
 {
-    let plan = plan_for(alloc, table, processes)?;
+    let plan = plan_for(alloc, table, plan)?;
     if asked.steps {
         tree_steps_report(alloc, &plan, inputs, schedule, asked.form)
     } else {

@@ -12,6 +12,7 @@ use cn_io::{AppFault, Report, with_line_feed};
 use cn_json::explanation_json;
 use cn_markdown::explanation_markdown;
 use cn_reasons::{Explanation, TypeNumber};
+use cn_sentences::ShortestCost;
 use cn_text::explanation_of;
 use std::alloc::{AllocError, Global};
 
@@ -31,19 +32,21 @@ pub(crate) fn explanation_for(
     Ok(explanation)
 }
 
-/// The text of an explanation in a form.
+/// The text of an explanation in a form, and of how short protocols get, if that is given.
 pub(crate) fn text_of(
     alloc: Global,
     explanation: &Explanation,
+    shortest: Option<ShortestCost>,
     form: DocumentForm,
 ) -> Result<String, AllocError>
     requires { IsExplanation explanation.now }
-    ensures { IfOk result (λ text. string_bytes text ≡ explanation_in form explanation.now) }
+    ensures { IfOk result (λ text. string_bytes text
+        ≡ explanation_in form explanation.now shortest) }
 {
     match form {
-        DocumentForm::Text => explanation_of(alloc, explanation),
-        DocumentForm::Json => with_line_feed(explanation_json(alloc, explanation)?),
-        DocumentForm::Markdown => explanation_markdown(alloc, explanation),
+        DocumentForm::Text => explanation_of(alloc, explanation, shortest),
+        DocumentForm::Json => with_line_feed(explanation_json(alloc, explanation, shortest)?),
+        DocumentForm::Markdown => explanation_markdown(alloc, explanation, shortest),
     }
 }
 
@@ -65,5 +68,5 @@ pub fn explain_report(
 {
     accepted_is_right();
     let explanation = explanation_for(alloc, checked, all)?;
-    Ok(Report::whole(text_of(alloc, &explanation, form)?))
+    Ok(Report::whole(text_of(alloc, &explanation, None, form)?))
 }

@@ -1,8 +1,8 @@
-//! The report of `show --shortest`.
+//! The report of `show` on a shortest plan.
 ghost use Rattle.std.specs.Prelude.{◌≡◌, IfOk, string_bytes};
 ghost use Rattle.cn_app.specs.Commands.ShowShortest.{IsShowShortestReport, IsTreeReport, tree_text};
 
-use crate::reports::shortest::plan_for;
+use crate::reports::shortest::{AskedPlan, plan_for};
 use cn_code::{tree_as_c, tree_as_rust};
 use cn_form::PlanForm;
 use cn_io::{AppFault, Report, with_line_feed};
@@ -42,7 +42,7 @@ fn tree_report(alloc: Global, plan: &TreePlan, form: PlanForm) -> Result<Report,
 }
 
 /// The shortest plan of the table in a form, for as many processes as asked for, or for the most for
-/// which there is a plan tree.
+/// which there is a plan tree; of all such plans, or of those whose processes do not read.
 ///
 /// # Errors
 ///
@@ -52,11 +52,11 @@ fn tree_report(alloc: Global, plan: &TreePlan, form: PlanForm) -> Result<Report,
 pub fn show_shortest_report(
     alloc: Global,
     table: &Table,
-    processes: Option<u8>,
+    asked: AskedPlan,
     form: PlanForm,
 ) -> Result<Report, AppFault>
-    ensures { IsShowShortestReport table.now processes form result }
+    ensures { IsShowShortestReport table.now asked form result }
 {
-    let plan = plan_for(alloc, table, processes)?;
+    let plan = plan_for(alloc, table, asked)?;
     tree_report(alloc, &plan, form)
 }

@@ -5,6 +5,7 @@ ghost use Rattle.cn_io.specs.declared.fault.AppFault.TheVariants.{OutOfMemory};
 
 use crate::reports::explain::{explain_report, text_of};
 use crate::reports::find::{found_certificate, limit_for};
+use crate::reports::shortest_cost::shortest_cost;
 use cn_check::laws::accepted_is_right;
 use cn_form::DocumentForm;
 use cn_io::readers::Checked;
@@ -57,7 +58,7 @@ pub(crate) fn reasons_for<T: Threads + Sync>(
     Ok(explanation)
 }
 
-/// The reasons for the number with no limit, in a form.
+/// The reasons for the number with no limit, and how short protocols get, in a form.
 fn reasons_report<T: Threads + Sync>(
     rt: &T,
     alloc: Global,
@@ -67,14 +68,15 @@ fn reasons_report<T: Threads + Sync>(
 ) -> Result<Report, AppFault>
     ensures { IsReasonsReport table all form result }
 {
+    let shortest = shortest_cost(alloc, &table)?;
     let explanation = reasons_for(rt, alloc, table, all)?;
-    Ok(Report::whole(text_of(alloc, &explanation, form)?))
+    Ok(Report::whole(text_of(alloc, &explanation, shortest, form)?))
 }
 
 /// Why the consensus number of the table is what it is, in a form.
 ///
-/// - Without a limit, it tells the number and the reasons for it ([`Explanation`]). The evidence in
-///   it is the certificate up to the greatest limit that
+/// - Without a limit, it tells the number and the reasons for it ([`Explanation`]), and what the
+///   shortest plan costs. The evidence in it is the certificate up to the greatest limit that
 ///   [`find_report`](crate::reports::find_report) accepts.
 /// - With a limit, it is the text of [`explain_report`] for the certificate that
 ///   [`find_report`](crate::reports::find_report) writes.
@@ -90,6 +92,8 @@ pub fn why_report<T: Threads + Sync>(
     all: bool,
     form: DocumentForm,
 ) -> Result<Report, AppFault>
+    // promise: shortest-cost-by-why (IsWhyReport: IsReasonsReport, HasReasonsFor; TellsShortest:
+    //     IsShortestCost, count, least, steps, objects, HasNoPlan)
     ensures { IsWhyReport table limit all form result }
 {
     match limit {

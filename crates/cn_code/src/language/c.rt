@@ -2,6 +2,7 @@
 ghost use Rattle.std.specs.Prelude.{◌≡◌};
 ghost use Rattle.cn_code.specs.CWords.{c_own_word, c_program_word, c_word};
 
+use crate::language::c_looks::{c_mixed_word, c_response_word};
 use crate::language::c_tournament::{c_own_tournament_word, c_tournament_word};
 use crate::language::c_tree::{c_blind_word, c_look_word, c_tree_word};
 use crate::language::{Form, OwnPart, Part, ProgramPart};
@@ -191,5 +192,7 @@ fn c_own_word(form: Form, part: OwnPart) -> &'static str
         Form::Tournament => c_own_tournament_word(part),
         Form::LookTree => c_look_word(part),
         Form::BlindTree => c_blind_word(part),
+        Form::ResponseTree => c_response_word(part),
+        Form::MixedTree => c_mixed_word(part),
     }
 }

@@ -20,11 +20,11 @@ const STARTS: &str = "\
 const unsigned consensus_starts[CONSENSUS_NODES] = {
 ";
 
-const MEET: &str = "\
+pub(super) const MEET: &str = "\
 at the nodes of a tree: each node has an object, and a
  * register for each of its teams.";
 
-const ZEROS: &str = "\
+pub(super) const ZEROS: &str = "\
 for (unsigned team = 0; team < CONSENSUS_TEAMS; team++)
             atomic_init(&node->registers[team], 0);";
 
@@ -105,12 +105,16 @@ pub(super) fn c_tree_word(part: TreePart) -> &'static str
         TreePart::StartNode => ", /* node ",
         TreePart::StartName => ": ",
         TreePart::LooksField => ", .looks = ",
+        TreePart::LookField => ", .look = ",
+        TreePart::LookEnd => "",
+        TreePart::NoLook => ", .look = -1",
+        TreePart::LookName => ", look: ",
         TreePart::JudgementField => ", .judgement = ",
         TreePart::JudgementNumber => "    /* judgement ",
     }
 }
 
-/// Where some process looks.
+/// Where some process reads, and none looks by an operation.
 pub(super) fn c_look_word(part: OwnPart) -> &'static str
     ensures { result.now ≡ c_look_word part }
 {

@@ -2,6 +2,7 @@
 ghost use Rattle.std.specs.Prelude.{◌≡◌};
 ghost use Rattle.cn_code.specs.RustWords.{rust_own_word, rust_program_word, rust_word};
 
+use crate::language::rust_looks::{rust_mixed_word, rust_response_word};
 use crate::language::rust_tournament::{rust_own_tournament_word, rust_tournament_word};
 use crate::language::rust_tree::{rust_blind_word, rust_look_word, rust_tree_word};
 use crate::language::{Form, OwnPart, Part, ProgramPart};
@@ -195,5 +196,7 @@ fn rust_own_word(form: Form, part: OwnPart) -> &'static str
         Form::Tournament => rust_own_tournament_word(part),
         Form::LookTree => rust_look_word(part),
         Form::BlindTree => rust_blind_word(part),
+        Form::ResponseTree => rust_response_word(part),
+        Form::MixedTree => rust_mixed_word(part),
     }
 }

@@ -25,7 +25,7 @@ const STARTS: &str = "\
 pub const STARTS: [usize; NODES] = [
 ";
 
-const MEET: &str = "\
+pub(super) const MEET: &str = "\
 at the nodes of a tree: each node has an object, and a
 //! register for each of its teams.";
 
@@ -105,12 +105,16 @@ pub(super) fn rust_tree_word(part: TreePart) -> &'static str
         TreePart::StartNode => ", // node ",
         TreePart::StartName => ": ",
         TreePart::LooksField => ", looks: ",
+        TreePart::LookField => ", look: Some(",
+        TreePart::LookEnd => ")",
+        TreePart::NoLook => ", look: None",
+        TreePart::LookName => ", look: ",
         TreePart::JudgementField => ", judgement: ",
         TreePart::JudgementNumber => "    // judgement ",
     }
 }
 
-/// Where some process looks.
+/// Where some process reads, and none looks by an operation.
 pub(super) fn rust_look_word(part: OwnPart) -> &'static str
     ensures { result.now ≡ rust_look_word part }
 {

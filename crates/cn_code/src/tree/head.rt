@@ -1,12 +1,10 @@
 //! The head of a plan tree's program.
-ghost use Rattle.std.specs.Prelude.{◌≡◌, ◌<◌, ◌++◌, OnOk, slice_index_or, string_bytes};
-ghost use Rattle.cn_trees.specs.Tree.{nodes_of};
-ghost use Rattle.cn_tree_plans.specs.Plan.{no_meeting, tree_of};
+ghost use Rattle.std.specs.Prelude.{◌≡◌, ◌++◌, OnOk, string_bytes};
 ghost use Rattle.cn_code.specs.Trees.{bounds_code, form_of, most_teams, tree_head};
-ghost use Rattle.cn_code.specs.TreeJudgements.{some_look};
 
 use crate::frame::push_numbers;
 use crate::language::{Form, Language, Part, TreePart};
+use crate::tree::sights::{some_read, some_response};
 use crate::words::push_number;
 use cn_tree_plans::TreePlan;
 use std::alloc::AllocError;
@@ -66,29 +64,15 @@ fn most_teams(plan: &TreePlan) -> u8
 pub(crate) fn form_of(plan: &TreePlan) -> Form
     ensures { result ≡ form_of plan.now }
 {
-    if some_look(plan) {
+    if some_response(plan) {
+        if some_read(plan) {
+            Form::MixedTree
+        } else {
+            Form::ResponseTree
+        }
+    } else if some_read(plan) {
         Form::LookTree
     } else {
         Form::BlindTree
     }
-}
-
-/// Whether some process looks at an object.
-#[tactic(auto, using(crate::proofs::Loops::any_more))]
-pub(crate) fn some_look(plan: &TreePlan) -> bool
-    ensures { result ≡ some_look plan.now }
-{
-    for node in 0..plan.nodes() {
-        if reads(plan, node) {
-            return true;
-        }
-    }
-    false
-}
-
-fn reads(plan: &TreePlan, node: u8) -> bool
-    requires { node < nodes_of (tree_of plan.now) }
-    ensures { result ≡ (slice_index_or plan.now.meetings node no_meeting).reads }
-{
-    plan.reads(node)
 }

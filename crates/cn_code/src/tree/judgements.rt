@@ -8,7 +8,7 @@ use crate::language::{Language, OwnPart, Part, TreePart};
 use crate::tree::head::form_of;
 use crate::tree::seats::{Seat, columns, team_first};
 use crate::words::{push_comma, push_count, push_own, push_text, push_word};
-use cn_table::{Response, State};
+use cn_table::Response;
 use cn_tree_plans::TreePlan;
 use std::alloc::AllocError;
 
@@ -122,24 +122,24 @@ fn push_cells(
     ensures { OnOk result (string_bytes text.new
         ≡ string_bytes text.old ++ tree_cells plan.now seat response.0) }
 {
-    for state in 0..columns(plan, seat) {
-        push_cell(text, plan, seat, response, State(state))?;
+    for saw in 0..columns(plan, seat) {
+        push_cell(text, plan, seat, response, saw)?;
     }
     Ok(())
 }
 
-/// The team that came first, for a response and a state.
+/// The team that came first, for a response and what the process saw.
 fn push_cell(
     text: &mut String,
     plan: &TreePlan,
     seat: Seat,
     response: Response,
-    state: State,
+    saw: u8,
 ) -> Result<(), AllocError>
     requires { IsSeat plan.now seat }
     ensures { OnOk result (string_bytes text.new
-        ≡ string_bytes text.old ++ tree_cell plan.now seat response.0 state.0) }
+        ≡ string_bytes text.old ++ tree_cell plan.now seat response.0 saw) }
 {
-    push_comma(text, state.0)?;
-    write!(text, "{}", team_first(plan, seat, response, state))
+    push_comma(text, saw)?;
+    write!(text, "{}", team_first(plan, seat, response, saw))
 }

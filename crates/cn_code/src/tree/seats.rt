@@ -8,7 +8,8 @@ ghost use Rattle.cn_code.specs.TreeJudgements.{judge_alike, judges_of as judges_
 ghost use Rattle.cn_code.specs.TreeJudgements.{number_among, seat_of, team_first, with_path};
 ghost use Rattle.cn_code.specs.TreeJudgements.{with_seat};
 
-use cn_table::{Response, State};
+use cn_meetings::Sight;
+use cn_table::Response;
 use cn_tree_plans::{Place, TreePlan};
 use std::alloc::{AllocError, Global};
 
@@ -102,7 +103,7 @@ pub(crate) fn number_among(plan: &TreePlan, judges: &[Seat], seat: Seat) -> usiz
     judges.len()
 }
 
-/// Whether two processes judge alike by each response, and by as many states.
+/// Whether two processes judge alike by each response and all that they can see, and can see as much.
 fn judge_alike(plan: &TreePlan, seat: Seat, other: Seat) -> bool
     requires seat { IsSeat plan.now seat }
     requires other { IsSeat plan.now other }
@@ -126,46 +127,46 @@ fn all_alike(plan: &TreePlan, seat: Seat, other: Seat) -> bool
     true
 }
 
-/// Whether they judge alike by a response and each state.
+/// Whether they judge alike by a response and all that they can see.
 #[tactic(auto, using(crate::proofs::Loops::all_more))]
 fn are_alike(plan: &TreePlan, seat: Seat, other: Seat, response: Response) -> bool
     requires seat { IsSeat plan.now seat }
     requires other { IsSeat plan.now other }
     ensures { result ≡ are_alike plan.now seat other response.0 }
 {
-    for state in 0..columns(plan, seat) {
-        if !is_alike(plan, seat, other, response, State(state)) {
+    for saw in 0..columns(plan, seat) {
+        if !is_alike(plan, seat, other, response, saw) {
             return false;
         }
     }
     true
 }
 
-fn is_alike(plan: &TreePlan, seat: Seat, other: Seat, response: Response, state: State) -> bool
+fn is_alike(plan: &TreePlan, seat: Seat, other: Seat, response: Response, saw: u8) -> bool
     requires seat { IsSeat plan.now seat }
     requires other { IsSeat plan.now other }
-    ensures { result ≡ is_alike plan.now seat other response.0 state.0 }
+    ensures { result ≡ is_alike plan.now seat other response.0 saw }
 {
-    team_first(plan, seat, response, state) == team_first(plan, other, response, state)
+    team_first(plan, seat, response, saw) == team_first(plan, other, response, saw)
 }
 
 /// The team that a process judges to have come first.
-pub(crate) fn team_first(plan: &TreePlan, seat: Seat, response: Response, state: State) -> u8
+pub(crate) fn team_first(plan: &TreePlan, seat: Seat, response: Response, saw: u8) -> u8
     requires { IsSeat plan.now seat }
-    ensures { result ≡ team_first plan.now seat response.0 state.0 }
+    ensures { result ≡ team_first plan.now seat response.0 saw }
 {
-    plan.judge(seat.node, seat.process, response, state)
+    plan.judge(seat.node, seat.process, response, saw)
 }
 
-/// By how many states a process judges.
+/// How much a process can see.
 pub(crate) fn columns(plan: &TreePlan, seat: Seat) -> u8
     requires { IsSeat plan.now seat }
     ensures { result ≡ columns plan.now seat }
 {
-    if looks(plan, seat) {
-        plan.table().states()
-    } else {
-        1
+    match plan.sight(seat.node) {
+        Sight::State => plan.table().states(),
+        Sight::Nothing => 1,
+        Sight::Response(_) => plan.table().responses(),
     }
 }
 
@@ -174,5 +175,5 @@ pub(crate) fn looks(plan: &TreePlan, seat: Seat) -> bool
     requires { IsSeat plan.now seat }
     ensures { result ≡ looks plan.now seat }
 {
-    plan.reads(seat.node)
+    plan.looks(seat.node)
 }

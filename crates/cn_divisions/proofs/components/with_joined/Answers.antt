@@ -1,5 +1,5 @@
 use Rattle.std.proofs.Common.{◌<◌, ◌+◌, arith, subst, sym, ◌∙◌, true≢false}
-use Rattle.cn_divisions.specs.Sights.{sight_of}
+use Rattle.cn_meetings.specs.Sights.{sight_of}
 use Rattle.cn_divisions.proofs.Merging.{SoFarTo, far_on, merged_far, same_far}
 use Rattle.cn_divisions.proofs.components.with_joined.Goals as goal
 use Rattle.cn_divisions.proofs.components.with_joined.Goals.{then-is_open+then-are_joined, else-is_open, else-is_open-via-then-is_open+else-are_joined, else-is_open-via-else-is_open}
@@ -9,7 +9,7 @@ loop-f-preserved c =
     let s = c.args.setting.now in
     let t = s.table.now in
     let items = s.stock.now.operations.items in
-    let sight = sight_of c.args.sight in
+    let sight = sight_of c.args.look.now.sight in
     let f = c.loop-f.f in
     let g = c.args.g in
     let i = c.loop-f.invariant in
@@ -27,4 +27,4 @@ loop-f-preserved c =
 pub returns : goal.returns
 returns c =
     let s = c.args.setting.now in
-    far_on s.table.now (sight_of c.args.sight) c.args.start s.stock.now.operations.items c.loop-f.merging c.args.g c.loop-f.f c.loop-f-test.false c.loop-f.invariant
+    far_on s.table.now (sight_of c.args.look.now.sight) c.args.start s.stock.now.operations.items c.loop-f.merging c.args.g c.loop-f.f c.loop-f-test.false c.loop-f.invariant

@@ -2,8 +2,8 @@ use Rattle.std.proofs.Common.{ℕ, ◌≤◌, ◌∙◌, inl, inr, arith, refl, 
 use Rattle.cn_outcomes.proofs.Packing.{below_or_last}
 use Rattle.cn_stocks.specs.Words.{Shows, times}
 use Rattle.cn_stocks.proofs.Steps.{shows_asked}
+use Rattle.cn_divisions.specs.Sights.{IsOf}
 use Rattle.cn_divisions.proofs.Known.{shows_known}
-use Rattle.cn_divisions.proofs.Looks.{alike_seen, look_alike}
 use Rattle.cn_divisions.proofs.joins.are_joined.Goals as goal
 
 pub loop-asked-preserved-then-not-has : goal.loop-asked-preserved-then-not-has
@@ -25,8 +25,11 @@ loop-asked-preserved c o r q l x y =
       | inr e ↦ (
           let one = (c.shown_by-shown.ensures r x.0).1 (subst (λ (k : ℕ). Shows t c.args.start items c.args.f k r x.0) e x.1) in
           let other = (c.shown_by.ensures r y.0).1 (subst (λ (k : ℕ). Shows t c.args.start items c.args.g k r y.0) e y.1) in
-          let alike = look_alike t c.args.sight x.0 y.0 (x.2 ∙ sym y.2) in
-          true≢false (sym (c.confuses.ensures.1 (r, x.0, y.0, one, other, alike)) ∙ c.if-confuses.false)
+          let a : IsOf t c.shown_by-shown.result =
+          λ n k h. shows_known t c.states-states.ensures.table c.args.start items c.args.f c.loop-asked.asked n k c.requires.start ((c.shown_by-shown.ensures n k).0 h) in
+          let b : IsOf t c.shown_by.result =
+          λ n k h. shows_known t c.states-states.ensures.table c.args.start items c.args.g c.loop-asked.asked n k c.requires.start ((c.shown_by.ensures n k).0 h) in
+          true≢false (sym ((c.confuses.ensures t c.requires.look a b).1 (r, x.0, y.0, one, other, x.2 ∙ sym y.2)) ∙ c.if-confuses.false)
           )
     ]
 
@@ -34,13 +37,19 @@ pub returns-then-confuses : goal.returns-then-confuses
 returns-then-confuses c = (
   λ h.
       let s = c.args.setting.now in
-      let a = c.confuses.ensures.0 c.if-confuses.true in
+      let t = s.table.now in
+      let items = s.stock.now.operations.items in
+      let of_f : IsOf t c.shown_by-shown.result =
+      λ n k h. shows_known t c.states-states.ensures.table c.args.start items c.args.f c.loop-asked.asked n k c.requires.start ((c.shown_by-shown.ensures n k).0 h) in
+      let of_g : IsOf t c.shown_by.result =
+      λ n k h. shows_known t c.states-states.ensures.table c.args.start items c.args.g c.loop-asked.asked n k c.requires.start ((c.shown_by.ensures n k).0 h) in
+      let a = (c.confuses.ensures t c.requires.look of_f of_g).0 c.if-confuses.true in
       record {
         to = c.loop-asked.asked;
         response = a.0;
         saw = _;
         told_f = (a.1, (c.shown_by-shown.ensures a.0 a.1).0 a.3, refl);
-        told_g = (a.2, (c.shown_by.ensures a.0 a.2).0 a.4, sym (alike_seen s.table.now c.args.sight a.1 a.2 a.5));
+        told_g = (a.2, (c.shown_by.ensures a.0 a.2).0 a.4, sym a.5);
       },
   λ j. refl,
 )
@@ -54,14 +63,8 @@ returns c = (
       absurd (c.loop-asked.invariant j.to j.response j.saw (omega (arith, known, c.loop-asked-test.false, c.operations-asked-end.ensures.number)) j.told_f j.told_g),
 )
 
-pub confuses-requires-clause-a : goal.confuses-requires-clause-a
-confuses-requires-clause-a c r q h =
+pub confuses-requires : goal.confuses-requires
+confuses-requires c r q h =
     let s = c.args.setting.now in
     let k = shows_known s.table.now c.states-states.ensures.table c.args.start s.stock.now.operations.items c.args.f c.loop-asked.asked r q c.requires.start ((c.shown_by-shown.ensures r q).0 h) in
-    (omega (arith, k.0, c.responses-responses.ensures.number, c.responses-responses.ensures.range.1), omega (arith, k.1, c.states-states.ensures.number, c.states-states.ensures.range.1))
-
-pub confuses-requires-clause-b : goal.confuses-requires-clause-b
-confuses-requires-clause-b c r q h =
-    let s = c.args.setting.now in
-    let k = shows_known s.table.now c.states-states.ensures.table c.args.start s.stock.now.operations.items c.args.g c.loop-asked.asked r q c.requires.start ((c.shown_by.ensures r q).0 h) in
-    (omega (arith, k.0, c.responses-responses.ensures.number, c.responses-responses.ensures.range.1), omega (arith, k.1, c.states-states.ensures.number, c.states-states.ensures.range.1))
+    omega (arith, k.0, c.responses-responses.ensures.number, c.responses-responses.ensures.range.1)

@@ -4,10 +4,13 @@ use Rattle.std.specs.Prelude.{IsBitSet, IsSome}
 use Rattle.cn_outcomes.proofs.Packing.{below_or_last}
 use Rattle.cn_divisions.specs.declared.divisions.Division.{Division}
 use Rattle.cn_divisions.specs.Joins.{IsSplit}
-use Rattle.cn_divisions.specs.Sights.{sight_of}
+use Rattle.cn_meetings.specs.Sights.{sight_of}
 use Rattle.cn_divisions.proofs.Extending.{FoundTo, extended_same, found_more, found_none, found_skip, less_set}
 use Rattle.cn_divisions.proofs.search.add_stock.Goals as goal
 use Rattle.cn_divisions.proofs.search.add_stock.Goals.{then-may_split+in-Some+in_ok-add, then-may_split+in_default, else-may_split}
+
+pub less_starts-less-requires-clause-long : goal.less_starts-less-requires-clause-long
+less_starts-less-requires-clause-long c = c.requires.starts.0
 
 pub loop-start-init : goal.loop-start-init
 loop-start-init c = record {
@@ -20,32 +23,31 @@ loop-start-preserved c =
     let s = c.args.setting.now in
     let t = s.table.now in
     let items = s.stock.now.operations.items in
-    let sight = sight_of c.args.sight in
+    let sight = sight_of c.args.look.now.sight in
     let k = c.loop-start.start in
     let old = c.args.found.now.items in
     let found = c.loop-start.found.items in
     let i = c.loop-start.invariant in
-    let starts = c.loop-start.starts in
     elim c.if-may_split.branch [
       | then-may_split+in-Some+in_ok-add w ↦ record {
         found_to = subst (λ (v : Vec Division Global). FoundTo t sight items old (k + 1) v.items) (sym w.found-is)
             (found_more t sight items old k found w.add.new.found.items w.finest.result w.in-Some.division w.in-Some.is w.finest.ensures.all w.in-Some.ensures.is w.in_ok-add.ensures.added w.in_ok-add.ensures.has i.found_to);
-        split = λ q l a. subst (λ (set : ℕ). IsBitSet set q) (sym w.starts-is) ((w.with-starts.ensures q).1 (elim (below_or_last q k l) [ inl b ↦ inl (i.split q b a) | inr e ↦ inr e ]));
+        split = λ q l a. subst (λ (set : ℕ). IsBitSet set q) (sym w.set-is) ((w.with-set.ensures q).1 (elim (below_or_last q k l) [ inl b ↦ inl (i.split q b a) | inr e ↦ inr e ]));
       }
       | then-may_split+in_default w ↦ record {
         found_to = subst (λ (v : Vec Division Global). FoundTo t sight items old (k + 1) v.items) (sym w.found-is) (found_none t sight items old k found w.finest.result w.in_default.is w.finest.ensures.all i.found_to);
-        split = λ q l a. subst (λ (set : ℕ). IsBitSet set q) (sym w.starts-is) (elim (below_or_last q k l) [
+        split = λ q l a. subst (λ (set : ℕ). IsBitSet set q) (sym w.set-is) (elim (below_or_last q k l) [
           | inl b ↦ i.split q b a
           | inr e ↦ absurd (true≢false (sym (subst IsSome w.in_default.is (w.finest.ensures.split (subst (λ (u : ℕ). IsSplit t sight u items) e a)))))
         ]);
       }
       | else-may_split w ↦ (
           let not_there = c.may_split.ensures (λ h. true≢false (sym h ∙ w.if-may_split.false)) in
-          let none : ¬ IsSplit t sight k items = λ a. not_there.1 (less_set s c.args.sight c.less_starts-less.result c.less_starts-less.ensures not_there.0 k
+          let none : ¬ IsSplit t sight k items = λ a. not_there.1 (less_set s sight c.less_starts-less.result (c.less_starts-less.ensures sight c.requires.starts) not_there.0 k
           (omega (arith, c.loop-start-test.true, c.states-start-end.ensures.number)) a) in
           record {
             found_to = subst (λ (v : Vec Division Global). FoundTo t sight items old (k + 1) v.items) (sym w.found-is) (found_skip t sight items old k found not_there.0 none i.found_to);
-            split = λ q l a. subst (λ (set : ℕ). IsBitSet set q) (sym w.starts-is) (elim (below_or_last q k l) [
+            split = λ q l a. subst (λ (set : ℕ). IsBitSet set q) (sym w.set-is) (elim (below_or_last q k l) [
               | inl b ↦ i.split q b a
               | inr e ↦ absurd (none (subst (λ (u : ℕ). IsSplit t sight u items) e a))
             ]);

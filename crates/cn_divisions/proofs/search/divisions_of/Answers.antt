@@ -11,7 +11,7 @@ use Rattle.cn_stocks.proofs.StockLemmas.{items_of, items_within, same_items}
 use Rattle.cn_divisions.specs.declared.divisions.Division.{Division}
 use Rattle.cn_divisions.specs.Divisions.{DifferInSizes, HaveSizesOf, IsDivision, IsMeetingOf, operations_of}
 use Rattle.cn_divisions.specs.Levels.{AreStarts, HasStarts}
-use Rattle.cn_divisions.specs.Sights.{sight_of}
+use Rattle.cn_meetings.specs.Sights.{sight_of}
 use Rattle.cn_divisions.proofs.Extending.{extended_sizes, meeting_known}
 use Rattle.cn_divisions.proofs.Finding.{length_teams}
 use Rattle.cn_divisions.proofs.search.divisions_of.Goals as goal
@@ -46,20 +46,20 @@ add_stock-requires-clause-are c =
     let here = slice_get_read list (length list) c.loop-place.place s refl c.loop-place-test.true c.index-list-place.is in
     let at = items_of c.args.stocks.now.list.items c.loop-place.place s (subst (λ (xs : List Stock). slice_get xs c.loop-place.place ≡ Some s) c.as_slice-list.ensures.value here) in
     let long = c.requires.stocks.1.long c.loop-place.place s.operations.items at in
-    subst (λ (n : ℕ). All (IsDivision c.args.table.now (sight_of c.args.sight) n) c.loop-place.divisions.items) (sym long) c.loop-place.invariant.are
+    subst (λ (n : ℕ). All (IsDivision c.args.table.now (sight_of c.args.look.now.sight) n) c.loop-place.divisions.items) (sym long) c.loop-place.invariant.are
 
 pub loop-place-init : goal.loop-place-init
 loop-place-init c = record {
-  are = subst (λ (xs : List Division). All (IsDivision c.args.table.now (sight_of c.args.sight) c.args.n) xs) (sym c.new-divisions.ensures.items) (All-nil (IsDivision c.args.table.now (sight_of c.args.sight) c.args.n));
+  are = subst (λ (xs : List Division). All (IsDivision c.args.table.now (sight_of c.args.look.now.sight) c.args.n) xs) (sym c.new-divisions.ensures.items) (All-nil (IsDivision c.args.table.now (sight_of c.args.look.now.sight) c.args.n));
   once = subst DifferInSizes (sym c.new-divisions.ensures.items) (λ i j d e at there same. absurd (none-some d at));
   done = λ M m i items l at same. absurd (omega (arith, l));
-  starts_are = each_none _ c.in_ok-starts.starts.items c.in_ok-starts.ensures.items;
+  starts_are = each_none _ c.in_ok-sets.sets.items c.in_ok-sets.ensures.items;
 }
 
 pub loop-place-preserved : goal.loop-place-preserved
 loop-place-preserved c =
     let t = c.args.table.now in
-    let sight = sight_of c.args.sight in
+    let sight = sight_of c.args.look.now.sight in
     let n = c.args.n in
     let s = c.index-list-place.result in
     let list = c.as_slice-list.result.now in
@@ -79,14 +79,14 @@ loop-place-preserved c =
         | inl u ↦ extended_sizes t n M c.loop-place.divisions.items new added.kept (c.loop-place.invariant.done M m i items u where_at same)
         | inr e ↦ its M m (subst (λ (xs : List ℕ). HaveSame xs (operations_of M n)) (same_items all k items s.operations.items (subst (λ (j : ℕ). items_at all j ≡ Some items) e where_at) at) same)
       ];
-      starts_are = each_push _ c.loop-place.starts.items c.push.new.self.items c.in_ok-here.here k c.in_ok-push.ensures.items c.loop-place.invariant.starts_are
-          (λ z e. subst (λ (x : Stock). HasStarts t c.args.sight x.operations.items c.in_ok-here.here) (same_Some _ _ (sym (subst (λ (xs : List Stock). slice_get xs k ≡ Some s) c.as_slice-list.ensures.value here) ∙ e)) added.starts);
+      starts_are = each_push _ c.loop-place.sets.items c.push.new.self.items c.in_ok-here.here k c.in_ok-push.ensures.items c.loop-place.invariant.starts_are
+          (λ z e. subst (λ (x : Stock). HasStarts t sight x.operations.items c.in_ok-here.here) (same_Some _ _ (sym (subst (λ (xs : List Stock). slice_get xs k ≡ Some s) c.as_slice-list.ensures.value here) ∙ e)) added.starts);
     }
 
 pub returns-clause-all : goal.returns-clause-all
 returns-clause-all c =
     let t = c.args.table.now in
-    let sight = sight_of c.args.sight in
+    let sight = sight_of c.args.look.now.sight in
     let n = c.args.n in
     let all = c.args.stocks.now.list.items in
     record {
@@ -102,4 +102,4 @@ pub returns-clause-starts : goal.returns-clause-starts
 returns-clause-starts c =
     let all = c.args.stocks.now.list.items in
     let end : c.loop-place.place ≡ length all = omega (arith, c.loop-place-test.false, c.loop-place.auto.place-end, ap length c.as_slice-list.ensures.value) in
-    subst (λ (k : ℕ). AreStarts c.args.table.now c.args.sight all k c.loop-place.starts.items) end c.loop-place.invariant.starts_are
+    subst (λ (k : ℕ). AreStarts c.args.table.now (sight_of c.args.look.now.sight) all k c.loop-place.sets.items) end c.loop-place.invariant.starts_are

@@ -8,6 +8,6 @@ use Rattle.cn_divisions.proofs.search.find_divisions.Given as goal
 abbrev pub invariant-loop-n : goal.invariant-loop-n
 invariant-loop-n l = record {
   search_is : IsSearch l.table l.n l.search;
-  starts_are : AreAllStarts l.table l.search.stocks.list.items l.starts;
-  each : EachAt (λ i d. AreDivisions l.table (i + 2) d) (l.n - 1) l.all.items;
+  starts_are : AreAllStarts l.table l.sights l.search.stocks.list.items l.starts.items;
+  each : EachAt (λ i d. AreDivisions l.table l.sights (i + 2) d) (l.n - 1) l.all.items;
 }

@@ -4,7 +4,7 @@ use Rattle.std.proofs.Math.Seq.{get_or-append_seam}
 use Rattle.cn_outcomes.proofs.Packing.{below_or_last}
 use Rattle.cn_stocks.proofs.StockLemmas.{count_push}
 use Rattle.cn_stocks.proofs.Times.{times_of_place}
-use Rattle.cn_divisions.specs.Sights.{sight_of}
+use Rattle.cn_meetings.specs.Sights.{sight_of}
 use Rattle.cn_divisions.proofs.ProcessTeams.{finest_by_operation, teams_small}
 use Rattle.cn_divisions.proofs.teams.teams_by_operation.Goals as goal
 
@@ -44,7 +44,7 @@ returns-clause-teams c =
     let items = s.stock.now.operations.items in
     let i = c.loop-process.invariant in
     let end : c.loop-process.process ≡ length items = omega (arith, c.loop-process-test.false, c.loop-process.auto.process-end, ap length c.as_slice-operations.ensures.value) in
-    teams_small s.table.now (sight_of c.args.sight) c.args.start items (length s.table.now.operations) c.requires.setting.stock_is.known (omega (arith, c.operations-operations.ensures.number, c.operations-operations.ensures.range.1))
+    teams_small s.table.now (sight_of c.args.look.now.sight) c.args.start items (length s.table.now.operations) c.requires.setting.stock_is.known (omega (arith, c.operations-operations.ensures.number, c.operations-operations.ensures.range.1))
     c.loop-process.teams.items c.components-of_operations.result (λ p l. i.each p (omega (arith, l, end))) (i.long ∙ end) c.components-of_operations.ensures.small
 
 pub returns-clause-finest : goal.returns-clause-finest
@@ -53,5 +53,5 @@ returns-clause-finest c =
     let items = s.stock.now.operations.items in
     let i = c.loop-process.invariant in
     let end : c.loop-process.process ≡ length items = omega (arith, c.loop-process-test.false, c.loop-process.auto.process-end, ap length c.as_slice-operations.ensures.value) in
-    finest_by_operation s.table.now (sight_of c.args.sight) c.args.start items (length s.table.now.operations) c.requires.setting.stock_is.known (omega (arith, c.operations-operations.ensures.number, c.operations-operations.ensures.range.1))
+    finest_by_operation s.table.now (sight_of c.args.look.now.sight) c.args.start items (length s.table.now.operations) c.requires.setting.stock_is.known (omega (arith, c.operations-operations.ensures.number, c.operations-operations.ensures.range.1))
     c.loop-process.teams.items c.components-of_operations.result (λ p l. i.each p (omega (arith, l, end))) c.requires.many c.components-of_operations.ensures.are

@@ -6,7 +6,7 @@ use Rattle.cn_tree_plans.specs.Teams.{teams_of}
 use Rattle.cn_trees.specs.Tree.Teams.{Meet}
 use Rattle.cn_shortest.specs.Built.{AddsNode, AddsTeams}
 use Rattle.cn_shortest.specs.Loads.{table_of}
-use Rattle.cn_shortest.specs.Sights.{sight_of}
+use Rattle.cn_meetings.specs.Sights.{sight_of}
 use Rattle.cn_shortest.proofs.BuiltNodes.{few_sizes, first_size, first_there, from_there, node_from, node_sizes, other_sizes, others_there, teams_some}
 use Rattle.cn_tree_costs.proofs.Numbers.{price_few}
 use Rattle.cn_shortest.proofs.building.+nodes.Goals as goal

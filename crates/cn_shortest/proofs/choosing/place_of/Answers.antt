@@ -2,7 +2,7 @@ use Rattle.std.proofs.Common.{◌≡◌, ◌+◌, ◌∙◌, arith, ap, sym, inl
 use Rattle.std.proofs.lemmas.Option.{same_Some, slice_get-get_or, slice_get_within}
 use Rattle.cn_tree_costs.specs.Least.{load_of_root}
 use Rattle.cn_shortest.specs.Loads.{root_with, table_of}
-use Rattle.cn_shortest.specs.Sights.{sight_of}
+use Rattle.cn_meetings.specs.Sights.{sight_of}
 use Rattle.cn_shortest.specs.declared.sizes.Sizes.{Sizes}
 use Rattle.cn_shortest.proofs.Elements.{below_or_last, no_sizes}
 use Rattle.cn_shortest.proofs.choosing.place_of.Goals as goal

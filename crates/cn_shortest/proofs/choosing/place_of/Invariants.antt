@@ -1,7 +1,7 @@
 use Rattle.std.proofs.Common.{ℕ, ◌≡◌, ◌<◌, ◌+◌, length, Some, slice_get}
 use Rattle.cn_shortest.specs.Choosing.{HasLoad}
 use Rattle.cn_shortest.specs.Loads.{table_of}
-use Rattle.cn_shortest.specs.Sights.{sight_of}
+use Rattle.cn_meetings.specs.Sights.{sight_of}
 use Rattle.cn_shortest.specs.declared.sizes.Sizes.{Sizes}
 use Rattle.cn_shortest.proofs.choosing.place_of.Given as goal
 

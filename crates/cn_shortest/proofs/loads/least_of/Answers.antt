@@ -1,6 +1,6 @@
 use Rattle.std.proofs.Common.{◌≡◌, ◌+◌, ◌∙◌, arith, ap, sym, inl, inr, length, get_or, slice_get}
 use Rattle.std.proofs.lemmas.Option.{none-some, same_Some, slice_get-get_or, slice_get_within}
-use Rattle.cn_shortest.specs.Sights.{sight_of}
+use Rattle.cn_meetings.specs.Sights.{sight_of}
 use Rattle.cn_tree_costs.specs.Least.{Root, load_of_root}
 use Rattle.cn_tree_costs.specs.Sizes.{price}
 use Rattle.cn_shortest.specs.Loads.{load_of, root_with, table_of}

@@ -1,5 +1,5 @@
 use Rattle.std.proofs.Common.{ℕ, ◌≡◌, ◌<◌, ◌+◌, length, Some, slice_get}
-use Rattle.cn_shortest.specs.Sights.{sight_of}
+use Rattle.cn_meetings.specs.Sights.{sight_of}
 use Rattle.cn_tree_costs.specs.Least as least
 use Rattle.cn_tree_costs.specs.Least.{IsAtMost, load_of_root}
 use Rattle.cn_shortest.specs.Loads.{IsLoadOf, load_of, root_with, roots_with, table_of}

@@ -1,5 +1,5 @@
 use Rattle.std.proofs.Common.{◌∙◌, ◌-◌, ◌+◌, ◌*◌, ℕ, ap, sym, length, Some}
-use Rattle.cn_shortest.specs.Sights.{sight_of}
+use Rattle.cn_meetings.specs.Sights.{sight_of}
 use Rattle.cn_tree_costs.specs.Least.{load_of_teams, plus}
 use Rattle.cn_shortest.specs.Loads.{table_of}
 use Rattle.cn_shortest.specs.Sizes.{sizes_of}

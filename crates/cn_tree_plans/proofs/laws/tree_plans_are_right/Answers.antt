@@ -10,11 +10,11 @@ returns c =
     record {
       plan = is;
       right = right;
-      tree = λ allowed reads silent. record {
+      tree = λ allowed has. record {
         table = refl;
         processes = refl;
         witnesses = c.witnesses_make_plan_trees.ensures.witnesses (tree_of c.args.plan.now) right;
         of_type = of_type c.nodes_are_trees.ensures.processes c.args.plan.now is;
-        uniform = uniform c.nodes_are_trees.ensures.processes c.args.plan.now is allowed reads silent;
+        uniform = uniform c.nodes_are_trees.ensures.processes c.args.plan.now is allowed has;
       };
     }

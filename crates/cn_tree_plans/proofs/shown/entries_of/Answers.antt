@@ -1,6 +1,9 @@
-use Rattle.std.proofs.Common.{List, arith, subst, sym, true≢false, ℕ, ◌∙◌}
+use Rattle.std.proofs.Common.{List, ap, arith, subst, sym, true≢false, ℕ, ◌∙◌}
+use Rattle.cn_meetings.specs.Sights.{sight_of}
+use Rattle.cn_meetings.specs.declared.sight.Sight.{Sight}
 use Rattle.cn_tree_costs.proofs.Numbers.{long_sum}
 use Rattle.cn_tree_plans.specs.Listing.{SomeMeet}
+use Rattle.cn_tree_plans.specs.Sights.{seen_count}
 use Rattle.cn_tree_plans.proofs.ListingLemmas.{entries_are, meets_shown}
 use Rattle.cn_tree_plans.proofs.shown.entries_of.Goals as goal
 
@@ -17,6 +20,6 @@ entries-requires-clause-few c =
 pub returns : goal.returns
 returns c =
     entries_are c.args.table.now c.args.meeting.now c.args.sizes.now c.args.k c.requires.meeting c.in_ok-sets.sets.items c.in_ok-sets.ensures
-    c.responses.result c.states.result c.in_ok-judged.judged.items c.responses.ensures.number c.states.ensures.number
+    c.responses.result c.seen_count-limit.result c.in_ok-judged.judged.items c.responses.ensures.number (c.seen_count-limit.ensures.number ∙ ap (λ (s : Sight). seen_count c.args.table.now (sight_of s)) c.sight.ensures)
     (λ h. true≢false (sym (c.some_meet.ensures.1 (subst (λ (sets : List (List ℕ)). SomeMeet sets) (sym c.deref.ensures.value) h)) ∙ c.if-some_meet.false))
     (rw c.deref-2.ensures.value at c.in_ok-judged.ensures)

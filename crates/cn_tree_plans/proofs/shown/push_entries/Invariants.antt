@@ -1,6 +1,6 @@
 use Rattle.cn_tree_plans.specs.Listing.{AreListed}
 use Rattle.cn_tree_plans.proofs.shown.push_entries.Given as goal
 
--- the entries before the one of this state
-abbrev pub invariant-loop-state : goal.invariant-loop-state
-invariant-loop-state l = AreListed l.sets l.states l.response l.state l.judged.items
+-- the entries before the one of this that is seen
+abbrev pub invariant-loop-saw : goal.invariant-loop-saw
+invariant-loop-saw l = AreListed l.sets l.limit l.response l.saw l.judged.items

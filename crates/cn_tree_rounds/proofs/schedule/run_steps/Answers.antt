@@ -3,6 +3,7 @@ use Rattle.cn_agree.proofs.Running.{no_stranger, right_count}
 use Rattle.cn_trees.specs.Steps.{after_schedule}
 use Rattle.cn_trees.specs.Tree.{processes_of}
 use Rattle.cn_tree_plans.specs.Plan.{tree_of}
+use Rattle.cn_tree_rounds.specs.Actions.{records_from}
 use Rattle.cn_tree_rounds.specs.Consensus.{IsConsensus}
 use Rattle.cn_tree_rounds.specs.Schedules.{decisions_of}
 use Rattle.cn_tree_rounds.proofs.Deciding.{decisions_are}
@@ -25,3 +26,6 @@ returns-clause-consensus c =
     subst Q (sym (returns-clause-decisions c))
     (c.schedules_agree.ensures c.args.plan.now c.tree_plans_are_right.ensures.right c.args.inputs.now c.args.schedule.now (right_count n c.args.inputs.now c.args.schedule.now none)
     (no_stranger n c.args.inputs.now c.args.schedule.now none))
+
+pub returns-clause-records : goal.returns-clause-records
+returns-clause-records c = c.in_ok-records.ensures.records ∙ ap (records_from (tree_of c.args.plan.now) c.args.schedule.now) c.in_ok-world.ensures.world

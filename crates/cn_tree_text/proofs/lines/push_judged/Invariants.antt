@@ -4,4 +4,4 @@ use Rattle.cn_tree_text.proofs.lines.push_judged.Given as goal
 
 -- what is judged so far
 abbrev pub invariant-loop-entry : goal.invariant-loop-entry
-invariant-loop-entry l = string_bytes l.text ≡ string_bytes l.initial.text ++ flat_map (judgement_text l.table l.reads) (take l.entry-index l.judged)
+invariant-loop-entry l = string_bytes l.text ≡ string_bytes l.initial.text ++ flat_map (judgement_text l.table l.sight) (take l.entry-index l.judged)

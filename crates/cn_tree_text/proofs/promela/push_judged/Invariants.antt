@@ -4,4 +4,4 @@ use Rattle.cn_tree_text.proofs.promela.push_judged.Given as goal
 
 -- what is judged so far
 abbrev pub invariant-loop-entry : goal.invariant-loop-entry
-invariant-loop-entry l = string_bytes l.text ≡ string_bytes l.initial.text ++ flat_map (judged_promela l.reads l.node) (take l.entry-index l.judged)
+invariant-loop-entry l = string_bytes l.text ≡ string_bytes l.initial.text ++ flat_map (judged_promela l.looks l.node) (take l.entry-index l.judged)

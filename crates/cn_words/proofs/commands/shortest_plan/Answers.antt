@@ -19,4 +19,4 @@ returns-in_err-form c = rw c.from_residual-in_err-form.ensures (λ invocation is
     c.in_err-form.ensures w.2.0 w.2.1)
 
 pub returns : goal.returns
-returns c = (refl, c.requires, c.in_ok-plan_table.ensures, c.in_ok-optional_number.ensures, c.in_ok-form.ensures)
+returns c = (refl, c.requires, c.is_flag_set.ensures, c.in_ok-plan_table.ensures, c.in_ok-optional_number.ensures, c.in_ok-form.ensures)

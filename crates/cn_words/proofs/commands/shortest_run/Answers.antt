@@ -14,4 +14,4 @@ returns-in_err-run_words c = rw c.from_residual-in_err-run_words.ensures (λ inv
     c.in_err-run_words.ensures w.1.0 w.1.1)
 
 pub returns : goal.returns
-returns c = (refl, c.requires.shortest, c.requires.lasting, c.in_ok-run_table.ensures, c.in_ok-run_words.ensures)
+returns c = (refl, c.requires.shortest, c.requires.lasting, c.is_flag_set.ensures, c.in_ok-run_table.ensures, c.in_ok-run_words.ensures)

@@ -12,7 +12,7 @@ returns-in_err-table-clause-agreed g c =
 
 pub returns-clause-agreed : goal.returns-clause-agreed
 returns-clause-agreed g c =
-    reported g.W.Write.contents (HasAgreeShortestReport c.read_table.new.text c.args.inputs.now c.args.schedule.now c.args.processes c.args.asked) c.args.output.now c.report.new.self
+    reported g.W.Write.contents (HasAgreeShortestReport c.read_table.new.text c.args.inputs.now c.args.schedule.now c.args.plan c.args.asked) c.args.output.now c.report.new.self
     c.agree_shortest_report.result c.report.result
     (inr (
       c.in_ok-lists.lists,
@@ -20,6 +20,6 @@ returns-clause-agreed g c =
       inr (
         c.in_ok-table.table,
         c.in_ok-table.ensures.table,
-        shortest_as c.in_ok-table.table c.args.processes _ _ _ _ c.args.asked c.agree_shortest_report.result c.deref.ensures.value c.deref-2.ensures.value c.agree_shortest_report.ensures,
+        shortest_as c.in_ok-table.table c.args.plan _ _ _ _ c.args.asked c.agree_shortest_report.result c.deref.ensures.value c.deref-2.ensures.value c.agree_shortest_report.ensures,
       ),
     )) c.report.ensures

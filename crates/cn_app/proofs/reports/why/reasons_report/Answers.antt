@@ -9,6 +9,8 @@ returns g c = (
   record {
     explanation = c.in_ok-explanation.explanation;
     explains = c.in_ok-explanation.ensures.told;
+    shortest = c.in_ok-shortest.shortest;
+    is_shortest = c.in_ok-shortest.ensures;
     written = ap string_bytes c.whole.ensures.text ∙ c.in_ok-text_of.ensures;
   },
   c.whole.ensures.outcome,

@@ -14,3 +14,11 @@ returns-in-LookTree c = c.c_look_word.ensures ∙ sym (ap (λ (form : Form). c_o
 pub returns-in-BlindTree : goal.returns-in-BlindTree
 unfolding c_own_word
 returns-in-BlindTree c = c.c_blind_word.ensures ∙ sym (ap (λ (form : Form). c_own_word form c.args.part) c.in-BlindTree.is)
+
+pub returns-in-ResponseTree : goal.returns-in-ResponseTree
+unfolding c_own_word
+returns-in-ResponseTree c = c.c_response_word.ensures ∙ sym (ap (λ (form : Form). c_own_word form c.args.part) c.in-ResponseTree.is)
+
+pub returns-in-MixedTree : goal.returns-in-MixedTree
+unfolding c_own_word
+returns-in-MixedTree c = c.c_mixed_word.ensures ∙ sym (ap (λ (form : Form). c_own_word form c.args.part) c.in-MixedTree.is)

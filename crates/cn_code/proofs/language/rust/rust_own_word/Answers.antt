@@ -14,3 +14,11 @@ returns-in-LookTree c = c.rust_look_word.ensures ∙ sym (ap (λ (form : Form). 
 pub returns-in-BlindTree : goal.returns-in-BlindTree
 unfolding rust_own_word
 returns-in-BlindTree c = c.rust_blind_word.ensures ∙ sym (ap (λ (form : Form). rust_own_word form c.args.part) c.in-BlindTree.is)
+
+pub returns-in-ResponseTree : goal.returns-in-ResponseTree
+unfolding rust_own_word
+returns-in-ResponseTree c = c.rust_response_word.ensures ∙ sym (ap (λ (form : Form). rust_own_word form c.args.part) c.in-ResponseTree.is)
+
+pub returns-in-MixedTree : goal.returns-in-MixedTree
+unfolding rust_own_word
+returns-in-MixedTree c = c.rust_mixed_word.ensures ∙ sym (ap (λ (form : Form). rust_own_word form c.args.part) c.in-MixedTree.is)

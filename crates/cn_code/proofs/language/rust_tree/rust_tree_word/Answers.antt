@@ -37,3 +37,19 @@ returns-in-JudgementField c = sym (ap rust_tree_word c.in-JudgementField.is)
 pub returns-in-JudgementNumber : goal.returns-in-JudgementNumber
 unfolding rust_tree_word
 returns-in-JudgementNumber c = sym (ap rust_tree_word c.in-JudgementNumber.is)
+
+pub returns-in-LookField : goal.returns-in-LookField
+unfolding rust_tree_word
+returns-in-LookField c = sym (ap rust_tree_word c.in-LookField.is)
+
+pub returns-in-LookEnd : goal.returns-in-LookEnd
+unfolding rust_tree_word
+returns-in-LookEnd c = sym (ap rust_tree_word c.in-LookEnd.is)
+
+pub returns-in-NoLook : goal.returns-in-NoLook
+unfolding rust_tree_word
+returns-in-NoLook c = sym (ap rust_tree_word c.in-NoLook.is)
+
+pub returns-in-LookName : goal.returns-in-LookName
+unfolding rust_tree_word
+returns-in-LookName c = sym (ap rust_tree_word c.in-LookName.is)

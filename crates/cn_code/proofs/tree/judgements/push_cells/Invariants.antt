@@ -3,6 +3,6 @@ use Rattle.std.specs.List.{range_with_len}
 use Rattle.cn_code.specs.Trees.{tree_cell}
 use Rattle.cn_code.proofs.tree.judgements.push_cells.Given as goal
 
--- the states so far
-abbrev pub invariant-loop-state : goal.invariant-loop-state
-invariant-loop-state l = string_bytes l.text ≡ string_bytes l.initial.text ++ flat_map (tree_cell l.plan l.seat l.response.0) (range_with_len 0 l.state)
+-- what is seen so far
+abbrev pub invariant-loop-saw : goal.invariant-loop-saw
+invariant-loop-saw l = string_bytes l.text ≡ string_bytes l.initial.text ++ flat_map (tree_cell l.plan l.seat l.response.0) (range_with_len 0 l.saw)

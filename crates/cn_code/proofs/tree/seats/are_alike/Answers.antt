@@ -6,6 +6,6 @@ use Rattle.cn_code.proofs.tree.seats.are_alike.Goals as goal
 pub returns-then-not-is_alike : goal.returns-then-not-is_alike
 returns-then-not-is_alike c =
     let plan = c.args.plan.now in
-    sym (all_fails (is_alike plan c.args.seat c.args.other c.args.response.0) (columns plan c.args.seat) c.loop-state.state
-    (omega (arith, c.loop-state-test.true, c.columns-state-end.ensures))
+    sym (all_fails (is_alike plan c.args.seat c.args.other c.args.response.0) (columns plan c.args.seat) c.loop-saw.saw
+    (omega (arith, c.loop-saw-test.true, c.columns-saw-end.ensures))
     (sym c.is_alike.ensures ∙ c.if-not-is_alike.true))

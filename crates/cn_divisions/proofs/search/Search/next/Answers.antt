@@ -16,15 +16,14 @@ all_shown-requires c i s e = record {
   stock_is = c.requires.search.all.stocks i s (subst (λ (list : List Stock). slice_get list i ≡ Some s) c.as_slice-list.ensures.value e);
 }
 
-pub returns : goal.returns
-returns c =
+pub returns-clause-search : goal.returns-clause-search
+returns-clause-search c =
     let t = c.args.table.now in
     let list = c.args.self.stocks.list.items in
     record {
       level = record {
         ends = subst (λ (stocks : List Stock). AreAllEnds t stocks (length stocks) c.in_ok-ends.ends.items) c.as_slice-list.ensures.value c.in_ok-ends.ensures;
         shown = subst (λ (stocks : List Stock). AreAllShown t stocks (length stocks) c.in_ok-shown.shown.items) c.as_slice-list.ensures.value c.in_ok-shown.ensures;
-        starts = c.requires.starts;
       };
       all = subst (λ (k : ℕ). AreAll k (c.args.n + 1) list c.in_ok-stocks.stocks) c.operations.ensures.number c.in_ok-stocks.ensures;
     }

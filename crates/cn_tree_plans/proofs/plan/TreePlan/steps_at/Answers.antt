@@ -4,10 +4,10 @@ use Rattle.cn_tree_plans.proofs.plan.TreePlan.steps_at.Goals as goal
 price : Bool → ℕ
 price looks = if looks then 4 else 3
 
-pub returns-then-reads-clause-number : goal.returns-then-reads-clause-number
+pub returns-then-looks-clause-number : goal.returns-then-looks-clause-number
 unfolding price
-returns-then-reads-clause-number c = λ p. ap price (c.reads.ensures p ∙ c.if-reads.true)
+returns-then-looks-clause-number c = λ p. ap price (c.looks.ensures p ∙ c.if-looks.true)
 
-pub returns-else-reads-clause-number : goal.returns-else-reads-clause-number
+pub returns-else-looks-clause-number : goal.returns-else-looks-clause-number
 unfolding price
-returns-else-reads-clause-number c = λ p. ap price (c.reads.ensures p ∙ c.if-reads.false)
+returns-else-looks-clause-number c = λ p. ap price (c.looks.ensures p ∙ c.if-looks.false)

@@ -1,0 +1,13 @@
+use Rattle.std.proofs.Common.{◌∙◌, sym, arith}
+use Rattle.cn_trees.specs.Tree.{nodes_of}
+use Rattle.cn_tree_plans.specs.Plan.{tree_of}
+use Rattle.cn_code.specs.TreeJudgements.{is_response, sight_at}
+use Rattle.cn_code.proofs.Loops.{any_holds}
+use Rattle.cn_code.proofs.tree.sights.some_response.Goals as goal
+
+pub returns-then-is_response_at : goal.returns-then-is_response_at
+returns-then-is_response_at c =
+    let plan = c.args.plan.now in
+    sym (any_holds (λ v. is_response (sight_at plan v)) (nodes_of (tree_of plan)) c.loop-node.node
+    (omega (arith, c.loop-node-test.true, c.nodes-node-end.ensures.number))
+    (sym c.is_response_at.ensures ∙ c.if-is_response_at.true))
