@@ -1,4 +1,6 @@
 //! Costs and plans of worked types.
+ghost use Rattle.std.specs.Prelude.{◌≤◌};
+
 use crate::{Looks, greatest_cost, greatest_plan, least_cost, shortest_plan};
 use cn_meetings::Sight;
 use cn_table::{Operation, read_table};
@@ -157,7 +159,10 @@ next = ["0", "1"]
 
 /// The least costs of n processes that read, that look by silent operations, and that do not look,
 /// each as steps, objects and sum.
-fn costs(alloc: Global, table: &str, n: u8) -> Result<String, Fail> {
+fn costs(alloc: Global, table: &str, n: u8) -> Result<String, Fail>
+    requires some { 2 ≤ n }
+    requires few { n ≤ 8 }
+{
     let table = read_table(alloc, table.as_bytes())?;
     let mut text = String::new(alloc);
     for looks in [Looks::AtStates, Looks::AtResponses, Looks::AtNothing] {
