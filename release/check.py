@@ -1,7 +1,8 @@
 #!/usr/bin/env python3
 """usage: check.py TABLE CERTIFICATE | TABLE --infinite STATE ONE MANY
-Checks a certificate for the consensus number of a type, with reads or without, or that it is infinite. Prints `ok`, with status 0, or what
-is wrong, with status 1. Needs Python 3.11 alone. Follows docs/FORMATS.md and docs/DEFINITIONS.md, and shares no line with the program."""
+Checks a certificate for the consensus number of a type, with reads or without, or of a plan tree, or that the number is infinite. Prints
+`ok`, with status 0, or what is wrong, with status 1. Needs Python 3.11 alone. Follows docs/FORMATS.md and docs/DEFINITIONS.md, and shares
+no line with the program."""
 import collections, functools, itertools, json, pathlib, re, sys, tomllib
 MOST_STATES, MOST_RESPONSES, MOST_OPERATIONS = 16, 16, 8
 flat = lambda it: [leaf for inner in it for leaf in flat(inner)] if type(it) is list else [it]
@@ -48,6 +49,7 @@ class Type:  # states, operations, processes and entries have numbers, from 0
             yield from ([start, [*a], [*b]] for a, b in itertools.product(*teams) if size < n - size or a <= b)
     def check(self, certificate):  # a witness for the number; none for one process more, and so none for still more
         if certificate["version"] == 4: return Unread(self).check(certificate)
+        if certificate["version"] == 5: return self.check_tree(certificate)
         demand([*sorted(certificate)] == "collisions limit number type version witness".split(), "another key")
         entries, limit, number, name, version, witness = (certificate[key] for key in sorted(certificate))
         demand(name == self.name and type(entries) is list, "the type, or the collisions")
@@ -62,6 +64,30 @@ class Type:  # states, operations, processes and entries have numbers, from 0
         for i, (choice, entry) in enumerate(itertools.zip_longest(choices, entries)):
             demand(type(entry) is list and entry[:3] == choice, f"entry {i} is not of the next choice, {choice}")
             demand(are_numbers(entry[:6:3], *entry[1:3], *entry[4:]) and self.is_collision(*entry), f"entry {i}: no collision")
+    def is_team_witness(self, start, look, operations, team_of):  # by its response, and by what it sees of the last state, each process tells the first team
+        seen = [look and q if type(look) is bool else self.act[look][q][0] for q in range(len(self.states))]
+        told, everyone = {}, range(len(operations))  # what a process has seen, and the team that was first then
+        for order in itertools.chain(*(itertools.permutations(everyone, size + 1) for size in everyone)):
+            responses, state = self.run(start, operations, order)
+            if any(told.setdefault((p, responses[p], seen[state]), team_of[order[0]]) != team_of[order[0]] for p in order): return False
+        return True
+    def check_tree(self, certificate):  # a tree of witnesses for so many processes, which takes each of them so many steps at most
+        demand([*sorted(certificate)] == "nodes processes steps type version".split(), "another key")
+        nodes, processes, steps, name, version = (certificate[key] for key in sorted(certificate))
+        demand(name == self.name and type(nodes) is list and are_numbers([processes, steps, version]), "the type, or a number")
+        left = iter(nodes)
+        def steps_of(size):  # of a process at the next node, which has this size, and at those below
+            start, look, operations, teams = next(left, [0, 0, [], []])
+            demand((type(look) is bool or are_numbers([look])) and are_numbers([start], operations, teams) and sum(teams) == size and len(teams) > 1, "no node of a tree")
+            demand(all(teams) and len(operations) == size, "a team of no process, or not an operation for each process")
+            demand(start < len(self.states) and max(operations) < len(self.act), "a state or an operation that is none of the type")
+            silent = [row for row in self.act if all(last == state for state, (_, last) in enumerate(row))]
+            demand(type(look) is bool or look < len(self.act) and self.act[look] in silent, "a look that changes a state")
+            team_of = [team for team, members in enumerate(teams) for _ in range(members)]
+            demand(self.is_team_witness(start, look, operations, team_of), "at a node some process cannot tell")
+            return 3 + (look is not False) + max(steps_of(members) if members > 1 else 0 for members in teams)
+        demand(2 <= processes <= 8 and steps == steps_of(processes), "the processes, or the steps")
+        demand(not [*left], "more nodes than the tree has")
     def check_infinite(self, start, one, many):  # the last state tells if `one` was first, however many do `many`
         start, one, many = self.states.index(start), self.operations.index(one), self.operations.index(many)
         times = [[many] * k for k in range(len(self.states) + 1)]  # one more leads to no other state

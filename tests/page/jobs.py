@@ -103,6 +103,9 @@ class Jobs:
             self.run(["agree", "--recoverable", "--processes", n, "--steps", "--as", "json", "-", inputs, CRASHES], table)
             self.run(["show", "--shortest", "--processes", n], table)
             self.run(["show", "--without-read", "--processes", n], table)
+            shortest = self.run(["find", "--shortest", "--processes", n], table)
+            if shortest:
+                self.run(["check", "--shortest", "--as", "json", "C"], table, C=shortest)
             self.run(["agree", "--shortest", "--processes", n, "--steps", "-", inputs, "1,1,0,0,0,1,0,1,0,1"], table)
         self.run(["classify", "--limit", "3", "T", "-", "T"], table, T=table)
         unread = self.run(["find", "--without-read"], table)

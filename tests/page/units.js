@@ -746,6 +746,7 @@ describe('answers', () => {
     const FAULTS = [
         ['cnum: table: 8 RowLength', 'A row does not have one entry for each state.'],
         ['cnum: check: 6 NotNext 8', 'Its collision 8 is not for the choice whose turn it is.'],
+        ['cnum: check: 4 Meets 1 0', 'At node 1 of its plan some process can get the same, whichever team was first.'],
         ['cnum: check: 4 WitnessMeets 0', 'Its witness is none: process 0 can get the same response and read the same state after either team was first.'],
         ['cnum: certificate: too long', 'It is longer than any certificate.'],
         ['cnum: certificate: no witness', 'It has no witness: one process alone has nobody to agree with.'],
@@ -764,6 +765,7 @@ describe('answers', () => {
 
     it('choose the check of a certificate by its version', () => {
         assert.deepEqual(Cnum.wordsOfCheck('{"version":4}'), ['check', '--without-read']);
+        assert.deepEqual(Cnum.wordsOfCheck('{"version":5}'), ['check', '--shortest']);
         for (const text of ['{"version":2}', '4', '{', 'null']) assert.deepEqual(Cnum.wordsOfCheck(text), ['check']);
     });
 

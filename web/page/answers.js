@@ -58,10 +58,11 @@ var Cnum = globalThis.Cnum || {};
         return Number(number) ? { name, place } : { name: words.join('_').split(':').join('') };
     };
 
-    // The words that check a certificate: one without reads has a version of its own.
+    // The words that check a certificate: one without reads has a version of its own, and so has one of a plan.
     Cnum.wordsOfCheck = function (text) {
+        const options = { 4: ['--without-read'], 5: ['--shortest'] };
         try {
-            return JSON.parse(text).version === 4 ? ['check', '--without-read'] : ['check'];
+            return ['check', ...(options[JSON.parse(text).version] || [])];
         } catch {
             return ['check'];
         }
@@ -71,7 +72,7 @@ var Cnum = globalThis.Cnum || {};
     Cnum.inWords = function ({ status, stderr }, fault = Cnum.faultOf(stderr)) {
         const named = `fault_${fault.name}`;
         const key = status === null ? 'fault_failed' : named in Cnum.texts ? named : 'fault_other';
-        const place = [fault.place, fault.process, fault.entry].find(it => it !== undefined);
+        const place = [fault.place, fault.node, fault.process, fault.entry].find(it => it !== undefined);
         return say('in_words', { sentence: say(key, { place }), line: stderr.trim() });
     };
 })();

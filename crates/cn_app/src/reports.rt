@@ -6,11 +6,13 @@
 mod agree;
 mod agree_shortest;
 pub(crate) mod check;
+pub(crate) mod check_shortest;
 pub(crate) mod check_unread;
 mod classify;
 mod draw;
 mod explain;
 mod find;
+mod find_shortest;
 mod find_unread;
 mod lint;
 mod lives;
@@ -31,6 +33,7 @@ pub use classify::{AskedNumbers, check_limit, classification_of, head_report, nu
 pub use draw::draw_report;
 pub use explain::explain_report;
 pub use find::{find_report, limit_for};
+pub use find_shortest::find_shortest_report;
 pub use find_unread::find_unread_report;
 pub use lint::lint_report;
 pub use lives::{AskedLives, lives_report};

@@ -11,6 +11,10 @@ use Rattle.cn_unread_cert.specs.FaultText.{unread_cert_fault_text}
 use Rattle.cn_unread_cert.specs.declared.fault.UnreadCertFault.TheVariants as unread_cert
 use Rattle.cn_unread_check.specs.FaultText.{unread_fault_text}
 use Rattle.cn_unread_check.specs.declared.fault.UnreadCheckFault.TheVariants as unread_check
+use Rattle.cn_tree_cert.specs.FaultText.{tree_cert_fault_text}
+use Rattle.cn_tree_cert.specs.declared.fault.TreeCertFault.TheVariants as tree_cert
+use Rattle.cn_tree_check.specs.FaultText.{tree_fault_text}
+use Rattle.cn_tree_check.specs.declared.fault.TreeCheckFault.TheVariants as tree_check
 use Rattle.cn_agree.specs.FaultText.{schedule_fault_text}
 use Rattle.cn_agree.specs.declared.fault.ScheduleFault.TheVariants as schedule
 use Rattle.cn_log.specs.FaultText.{replay_fault_text}
@@ -46,6 +50,8 @@ plain_of (fault.Object table.OutOfMemory) = fault.OutOfMemory
 plain_of (fault.Certificate cert.OutOfMemory) = fault.OutOfMemory
 plain_of (fault.UnreadCertificate unread_cert.OutOfMemory) = fault.OutOfMemory
 plain_of (fault.UnreadCheck unread_check.OutOfMemory) = fault.OutOfMemory
+plain_of (fault.TreeCertificate tree_cert.OutOfMemory) = fault.OutOfMemory
+plain_of (fault.TreeCheck tree_check.OutOfMemory) = fault.OutOfMemory
 plain_of (fault.Find find.OutOfMemory) = fault.OutOfMemory
 plain_of (fault.Schedule schedule.OutOfMemory) = fault.OutOfMemory
 plain_of (fault.Replay replay.OutOfMemory) = fault.OutOfMemory
@@ -59,9 +65,11 @@ head_of (fault.Table f) = codes "table: "
 head_of (fault.Object f) = codes "object: "
 head_of (fault.Certificate f) = codes "certificate: "
 head_of (fault.UnreadCertificate f) = codes "certificate: "
+head_of (fault.TreeCertificate f) = codes "certificate: "
 head_of (fault.TooLong s) = source_text s
 head_of (fault.Check f) = codes "check: "
 head_of (fault.UnreadCheck f) = codes "check: "
+head_of (fault.TreeCheck f) = codes "check: "
 head_of fault.NoWitness = codes "certificate: no witness"
 head_of fault.NoRecordingWitness = codes "table: no recording witness"
 head_of fault.NoPlanTree = codes "table: no plan tree"
@@ -79,8 +87,10 @@ carried_text (fault.Table f) = table_fault_text f
 carried_text (fault.Object f) = table_fault_text f
 carried_text (fault.Certificate f) = cert_fault_text f
 carried_text (fault.UnreadCertificate f) = unread_cert_fault_text f
+carried_text (fault.TreeCertificate f) = tree_cert_fault_text f
 carried_text (fault.Check f) = check_fault_text f
 carried_text (fault.UnreadCheck f) = unread_fault_text f
+carried_text (fault.TreeCheck f) = tree_fault_text f
 carried_text (fault.Find f) = find_fault_text f
 carried_text (fault.Schedule f) = schedule_fault_text f
 carried_text (fault.Replay f) = replay_fault_text f
@@ -101,6 +111,7 @@ app_fault_text f = head_of (plain_of f) ++ carried_text (plain_of f) ++ tail_of 
 abbrev pub plain_status : AppFault → ℕ
 plain_status (fault.Check f) = 1
 plain_status (fault.UnreadCheck f) = 1
+plain_status (fault.TreeCheck f) = 1
 plain_status fault.NoWitness = 1
 plain_status fault.NoRecordingWitness = 1
 plain_status fault.NoPlanTree = 1
@@ -108,6 +119,7 @@ plain_status (fault.Table f) = 2
 plain_status (fault.Object f) = 2
 plain_status (fault.Certificate f) = 2
 plain_status (fault.UnreadCertificate f) = 2
+plain_status (fault.TreeCertificate f) = 2
 plain_status (fault.TooLong s) = 2
 plain_status (fault.Argument a) = 3
 plain_status (fault.Find f) = 3

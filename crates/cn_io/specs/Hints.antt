@@ -19,6 +19,10 @@ use Rattle.cn_unread_cert.specs.declared.fault.UnreadCertFault.{UnreadCertFault}
 use Rattle.cn_unread_cert.specs.declared.fault.UnreadCertFault.TheVariants as unread_cert
 use Rattle.cn_unread_check.specs.declared.fault.UnreadCheckFault.{UnreadCheckFault}
 use Rattle.cn_unread_check.specs.declared.fault.UnreadCheckFault.TheVariants as unread_check
+use Rattle.cn_tree_cert.specs.declared.fault.TreeCertFault.{TreeCertFault}
+use Rattle.cn_tree_cert.specs.declared.fault.TreeCertFault.TheVariants as tree_cert
+use Rattle.cn_tree_check.specs.declared.fault.TreeCheckFault.{TreeCheckFault}
+use Rattle.cn_tree_check.specs.declared.fault.TreeCheckFault.TheVariants as tree_check
 use Rattle.cn_agree.specs.declared.fault.ScheduleFault.{ScheduleFault}
 use Rattle.cn_agree.specs.declared.fault.ScheduleFault.TheVariants as schedule
 use Rattle.cn_log.specs.declared.fault.ReplayFault.{ReplayFault}
@@ -99,7 +103,8 @@ abbrev pub certificate_hint : CertFault → Option (List ℕ)
 certificate_hint cert.NotJson = Some (codes "a certificate is one JSON object, as find writes it")
 certificate_hint cert.WrongShape = Some (codes
     "a certificate has these keys alone: collisions, limit, number, type, version, witness; "
-    ++ codes "check --without-read is for one of find --without-read")
+    ++ codes "check --without-read is for one of find --without-read, "
+    ++ codes "check --shortest for one of find --shortest")
 certificate_hint cert.Version = Some (codes "the version of a certificate is 1 or 2")
 certificate_hint cert.Range = Some (codes
     "a number or a list is too great for a certificate, or the type has no right name")
@@ -117,6 +122,19 @@ unread_certificate_hint unread_cert.Version =
 unread_certificate_hint unread_cert.Range = Some (codes
     "a number or a list is too great for a certificate, or the type has no right name")
 unread_certificate_hint unread_cert.OutOfMemory = None
+
+-- the same of a certificate of a plan tree
+abbrev pub tree_certificate_hint : TreeCertFault → Option (List ℕ)
+tree_certificate_hint tree_cert.NotJson =
+    Some (codes "a certificate is one JSON object, as find --shortest writes it")
+tree_certificate_hint tree_cert.WrongShape =
+    Some (codes "a certificate of a plan has these keys alone: "
+    ++ codes "nodes, processes, steps, type, version")
+tree_certificate_hint tree_cert.Version =
+    Some (codes "the version of a certificate of a plan is 5")
+tree_certificate_hint tree_cert.Range =
+    Some (codes "a number is too great for a certificate, or the type has no right name")
+tree_certificate_hint tree_cert.OutOfMemory = None
 
 -- why the check refuses a certificate
 abbrev pub check_hint : CheckFault → List ℕ
@@ -145,6 +163,19 @@ unread_check_hint unread_check.Most = Some (codes "the evidence does not show at
 unread_check_hint unread_check.TooManyScenes =
     Some (codes "the further operations lead to too many scenes for the check")
 unread_check_hint unread_check.OutOfMemory = None
+
+-- why the check refuses a certificate of a plan tree
+abbrev pub tree_check_hint : TreeCheckFault → Option (List ℕ)
+tree_check_hint tree_check.OtherType =
+    Some (codes "the certificate is for a type of another name")
+tree_check_hint tree_check.NotATree =
+    Some (codes "the teams are not those of a tree of 2 to 8 processes, as many as it tells")
+tree_check_hint tree_check.BadMeeting = Some (codes
+    "a node has no state of the table, or not an operation of it for each of its processes")
+tree_check_hint (tree_check.Meets node process) =
+    Some (codes "at this node, from 0, this process cannot always tell which team was first")
+tree_check_hint tree_check.BadSteps = Some (codes "steps is not the most that a process takes")
+tree_check_hint tree_check.OutOfMemory = None
 
 abbrev pub find_hint : FindFault → Option ℕ → Option (List ℕ)
 find_hint find.BadLimit known = Some (codes "a limit is from 2 to 8")
@@ -192,6 +223,8 @@ hint_of (fault.UnreadCertificate f) known = unread_certificate_hint f
 hint_of (fault.TooLong s) known = Some (size_hint s)
 hint_of (fault.Check f) known = Some (check_hint f)
 hint_of (fault.UnreadCheck f) known = unread_check_hint f
+hint_of (fault.TreeCertificate f) known = tree_certificate_hint f
+hint_of (fault.TreeCheck f) known = tree_check_hint f
 hint_of fault.NoWitness known = Some (codes "the number is null, so there is no protocol")
 hint_of fault.NoRecordingWitness known =
     Some (codes "classify --recoverable tells for how many processes there is one")

@@ -10,6 +10,8 @@ use cn_log::ReplayFault;
 use cn_search::FindFault;
 use cn_service::ServeFault;
 use cn_table::TableFault;
+use cn_tree_cert::TreeCertFault;
+use cn_tree_check::TreeCheckFault;
 use cn_unread_cert::UnreadCertFault;
 use cn_unread_check::UnreadCheckFault;
 use std::alloc::{AllocError, AllocFailed};
@@ -63,12 +65,16 @@ pub enum AppFault {
     Certificate(CertFault),
     /// The text of a certificate of a number without reads was refused.
     UnreadCertificate(UnreadCertFault),
+    /// The text of a certificate of a plan tree was refused.
+    TreeCertificate(TreeCertFault),
     /// A text is longer than its limit.
     TooLong(Source),
     /// The check refused the certificate.
     Check(CheckFault),
     /// The check refused the certificate of a number without reads, or came to no end.
     UnreadCheck(UnreadCheckFault),
+    /// The check refused the certificate of a plan tree.
+    TreeCheck(TreeCheckFault),
     /// The certificate has no witness.
     NoWitness,
     /// The type has no recording witness for so many processes.
@@ -174,6 +180,8 @@ impl AppFault {
             | AppFault::Certificate(CertFault::OutOfMemory)
             | AppFault::UnreadCertificate(UnreadCertFault::OutOfMemory)
             | AppFault::UnreadCheck(UnreadCheckFault::OutOfMemory)
+            | AppFault::TreeCertificate(TreeCertFault::OutOfMemory)
+            | AppFault::TreeCheck(TreeCheckFault::OutOfMemory)
             | AppFault::Find(FindFault::OutOfMemory)
             | AppFault::Schedule(ScheduleFault::OutOfMemory)
             | AppFault::Replay(ReplayFault::OutOfMemory) => AppFault::OutOfMemory,
@@ -193,8 +201,10 @@ impl AppFault {
             AppFault::Table(_) => "table: ",
             AppFault::Object(_) => "object: ",
             AppFault::Certificate(_) | AppFault::UnreadCertificate(_) => "certificate: ",
+            AppFault::TreeCertificate(_) => "certificate: ",
             AppFault::TooLong(source) => source.name(),
             AppFault::Check(_) | AppFault::UnreadCheck(_) => "check: ",
+            AppFault::TreeCheck(_) => "check: ",
             AppFault::NoWitness => "certificate: no witness",
             AppFault::NoRecordingWitness => "table: no recording witness",
             AppFault::NoPlanTree => "table: no plan tree",
@@ -235,9 +245,10 @@ impl AppFault {
     {
         match self.plain() {
             AppFault::Check(_) | AppFault::UnreadCheck(_) | AppFault::NoWitness => 1,
-            AppFault::NoRecordingWitness | AppFault::NoPlanTree => 1,
+            AppFault::TreeCheck(_) | AppFault::NoRecordingWitness | AppFault::NoPlanTree => 1,
             AppFault::Table(_) | AppFault::Object(_) => 2,
             AppFault::Certificate(_) | AppFault::UnreadCertificate(_) => 2,
+            AppFault::TreeCertificate(_) => 2,
             AppFault::TooLong(_) => 2,
             AppFault::Words | AppFault::Argument(_) => 3,
             AppFault::Find(_) | AppFault::Schedule(_) | AppFault::Replay(_) => 3,
@@ -267,6 +278,8 @@ impl fmt::Display for AppFault {
             AppFault::UnreadCertificate(fault) => write!(f, "{head}{fault}{tail}"),
             AppFault::Check(fault) => write!(f, "{head}{fault}{tail}"),
             AppFault::UnreadCheck(fault) => write!(f, "{head}{fault}{tail}"),
+            AppFault::TreeCertificate(fault) => write!(f, "{head}{fault}{tail}"),
+            AppFault::TreeCheck(fault) => write!(f, "{head}{fault}{tail}"),
             AppFault::Find(fault) => write!(f, "{head}{fault}{tail}"),
             AppFault::Schedule(fault) => write!(f, "{head}{fault}{tail}"),
             AppFault::Replay(fault) => write!(f, "{head}{fault}{tail}"),
@@ -347,6 +360,28 @@ impl From<UnreadCheckFault> for AppFault {
 
     fn from(fault: UnreadCheckFault) -> AppFault {
         AppFault::UnreadCheck(fault).plain()
+    }
+}
+
+impl From<TreeCertFault> for AppFault {
+    ghost use Rattle.cn_io.specs.FaultText.{plain_of};
+    ghost use Rattle.cn_io.specs.declared.fault.AppFault.TheVariants.{TreeCertificate};
+
+    ghost from_gives = { λ fault e. e ≡ plain_of (TreeCertificate fault) };
+
+    fn from(fault: TreeCertFault) -> AppFault {
+        AppFault::TreeCertificate(fault).plain()
+    }
+}
+
+impl From<TreeCheckFault> for AppFault {
+    ghost use Rattle.cn_io.specs.FaultText.{plain_of};
+    ghost use Rattle.cn_io.specs.declared.fault.AppFault.TheVariants.{TreeCheck};
+
+    ghost from_gives = { λ fault e. e ≡ plain_of (TreeCheck fault) };
+
+    fn from(fault: TreeCheckFault) -> AppFault {
+        AppFault::TreeCheck(fault).plain()
     }
 }
 

@@ -1,6 +1,6 @@
 //! What to do about a fault, for a person who reads it.
 ghost use Rattle.std.specs.Prelude.{◌≡◌, Some, option_map};
-ghost use Rattle.cn_io.specs.Hints.{argument_hint, certificate_hint, check_hint, find_hint, hint_of, hint_text, lint_hint, plan_hint, replay_hint, schedule_hint, size_hint, table_hint, unread_certificate_hint, unread_check_hint};
+ghost use Rattle.cn_io.specs.Hints.{argument_hint, certificate_hint, check_hint, find_hint, hint_of, hint_text, lint_hint, plan_hint, replay_hint, schedule_hint, size_hint, table_hint, tree_certificate_hint, tree_check_hint, unread_certificate_hint, unread_check_hint};
 
 use crate::fault::{AppFault, Argument, Source};
 use crate::known::Known;
@@ -10,6 +10,8 @@ use cn_check::CheckFault;
 use cn_log::ReplayFault;
 use cn_search::FindFault;
 use cn_table::TableFault;
+use cn_tree_cert::TreeCertFault;
+use cn_tree_check::TreeCheckFault;
 use cn_unread_cert::UnreadCertFault;
 use cn_unread_check::UnreadCheckFault;
 use std::fmt;
@@ -121,7 +123,8 @@ fn certificate_hint(fault: CertFault) -> Option<Hint<'static>>
         CertFault::NotJson => "a certificate is one JSON object, as find writes it",
         CertFault::WrongShape => {
             "a certificate has these keys alone: collisions, limit, number, type, version, witness; \
-             check --without-read is for one of find --without-read"
+             check --without-read is for one of find --without-read, \
+             check --shortest for one of find --shortest"
         }
         CertFault::Version => "the version of a certificate is 1 or 2",
         CertFault::Range =>
@@ -164,6 +167,42 @@ fn unread_check_hint(fault: UnreadCheckFault) -> Option<Hint<'static>>
             "the further operations lead to too many scenes for the check"
         }
         UnreadCheckFault::OutOfMemory => return None,
+    }))
+}
+
+fn tree_certificate_hint(fault: TreeCertFault) -> Option<Hint<'static>>
+    ensures { option_map hint_text result ≡ tree_certificate_hint fault }
+{
+    Some(Hint::Says(match fault {
+        TreeCertFault::NotJson => "a certificate is one JSON object, as find --shortest writes it",
+        TreeCertFault::WrongShape => {
+            "a certificate of a plan has these keys alone: nodes, processes, steps, type, version"
+        }
+        TreeCertFault::Version => "the version of a certificate of a plan is 5",
+        TreeCertFault::Range => {
+            "a number is too great for a certificate, or the type has no right name"
+        }
+        TreeCertFault::OutOfMemory => return None,
+    }))
+}
+
+// Why the check refuses a certificate of a plan tree.
+fn tree_check_hint(fault: TreeCheckFault) -> Option<Hint<'static>>
+    ensures { option_map hint_text result ≡ tree_check_hint fault }
+{
+    Some(Hint::Says(match fault {
+        TreeCheckFault::OtherType => "the certificate is for a type of another name",
+        TreeCheckFault::NotATree => {
+            "the teams are not those of a tree of 2 to 8 processes, as many as it tells"
+        }
+        TreeCheckFault::BadMeeting => {
+            "a node has no state of the table, or not an operation of it for each of its processes"
+        }
+        TreeCheckFault::Meets { .. } => {
+            "at this node, from 0, this process cannot always tell which team was first"
+        }
+        TreeCheckFault::BadSteps => "steps is not the most that a process takes",
+        TreeCheckFault::OutOfMemory => return None,
     }))
 }
 
@@ -262,6 +301,8 @@ impl AppFault {
             AppFault::TooLong(source) => Some(Hint::Says(size_hint(source))),
             AppFault::Check(fault) => Some(Hint::Says(check_hint(fault))),
             AppFault::UnreadCheck(fault) => unread_check_hint(*fault),
+            AppFault::TreeCertificate(fault) => tree_certificate_hint(*fault),
+            AppFault::TreeCheck(fault) => tree_check_hint(*fault),
             AppFault::NoWitness => Some(Hint::Says("the number is null, so there is no protocol")),
             AppFault::NoRecordingWitness => Some(Hint::Says(
                 "classify --recoverable tells for how many processes there is one",

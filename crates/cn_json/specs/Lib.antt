@@ -19,3 +19,4 @@ pub mod UnreadWitness
 pub mod Unread
 pub mod TreeCourses
 pub mod TreePlans
+pub mod TreeVerdict

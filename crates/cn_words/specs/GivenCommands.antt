@@ -18,6 +18,7 @@ use Rattle.cn_form.specs.declared.answer_form.AnswerForm.TheVariants as answer
 use Rattle.cn_words.specs.declared.commands.Command.{Command}
 use Rattle.cn_words.specs.declared.commands.Command.TheVariants.{Find, FindUnread, Lint}
 use Rattle.cn_words.specs.declared.commands.Command.TheVariants.{Draw, Check, CheckUnread}
+use Rattle.cn_words.specs.declared.commands.Command.TheVariants.{CheckShortest, FindShortest}
 use Rattle.cn_words.specs.declared.commands.Command.TheVariants.{Explain, Why, WhyRecoverable}
 use Rattle.cn_words.specs.declared.commands.Command.TheVariants.{WhyUnread, Pairs, Show, Agree}
 use Rattle.cn_words.specs.declared.commands.Command.TheVariants.{Replay, Serve}
@@ -174,10 +175,15 @@ abbrev pub asks_for_shortest : List Row → Bool
 asks_for_shortest rows =
     is_flag_set (codes "shortest") rows || is_flag_set (codes "without-read") rows
 
--- whether a word is there that no command by a certificate has
+-- whether a word is there that no command by a certificate of a number has
 abbrev pub excludes_certificate : List Row → Bool
 excludes_certificate rows = is_flag_set (codes "recoverable") rows
     || (asks_for_shortest rows || is_some (first_of (codes "processes") rows))
+
+-- whether a word is there that only the shortest plan has
+abbrev pub is_of_plan : List Row → Bool
+is_of_plan rows =
+    is_flag_set (codes "shortest") rows || is_some (first_of (codes "processes") rows)
 
 -- ---- numbers
 
@@ -191,10 +197,12 @@ is_limit_excluded rows =
 abbrev pub name_of : Command → Text
 name_of (Find limit) = codes "find"
 name_of FindUnread = codes "find"
+name_of (FindShortest processes) = codes "find"
 name_of (Lint form) = codes "lint"
 name_of Draw = codes "draw"
 name_of (Check certificate form) = codes "check"
 name_of (CheckUnread certificate form) = codes "check"
+name_of (CheckShortest certificate form) = codes "check"
 name_of (Explain certificate all form) = codes "explain"
 name_of (Why limit all form) = codes "why"
 name_of (WhyRecoverable all form) = codes "why"
@@ -209,16 +217,26 @@ name_of (Serve opening calls form) = codes "serve"
 abbrev pub HasArguments : List Row → Command → Type 0
 HasArguments rows (Find limit) =
     HasLimit rows limit × (is_flag_set (codes "without-read") rows ≡ false)
+    × (is_of_plan rows ≡ false)
 HasArguments rows FindUnread = (is_flag_set (codes "without-read") rows ≡ true)
-    × (first_of (codes "limit") rows ≡ None)
+    × (first_of (codes "limit") rows ≡ None) × (is_of_plan rows ≡ false)
+HasArguments rows (FindShortest processes) = (is_flag_set (codes "shortest") rows ≡ true)
+    × (is_flag_set (codes "without-read") rows ≡ false) × (first_of (codes "limit") rows ≡ None)
+    × HasOptionalNumber (codes "processes") rows processes
 HasArguments rows (Lint form) = HasAnswerForm rows form
 HasArguments rows Draw = Unit {0}
 HasArguments rows (Check certificate form) =
     HasCertificate rows certificate × HasAnswerForm rows form
     × (is_flag_set (codes "without-read") rows ≡ false)
+    × (is_flag_set (codes "shortest") rows ≡ false)
 HasArguments rows (CheckUnread certificate form) =
     HasCertificate rows certificate × HasAnswerForm rows form
     × (is_flag_set (codes "without-read") rows ≡ true)
+    × (is_flag_set (codes "shortest") rows ≡ false)
+HasArguments rows (CheckShortest certificate form) =
+    HasCertificate rows certificate × HasAnswerForm rows form
+    × (is_flag_set (codes "without-read") rows ≡ false)
+    × (is_flag_set (codes "shortest") rows ≡ true)
 HasArguments rows (Explain certificate all form) =
     HasCertificate rows certificate × HasFlag (codes "all") rows all × HasAnswerForm rows form
 HasArguments rows (Why limit all form) =

@@ -2,12 +2,13 @@
 ghost use Rattle.std.specs.Prelude.{◌≡◌, IfOk, MatchResult, codes, false, map, option_map, true};
 ghost use Rattle.clap.specs.Simple.{subcommand_rows_of};
 ghost use Rattle.clap.specs.Walk.{first_of};
-ghost use Rattle.cn_words.specs.GivenCommands.{Finds, HasAnswerForm, HasCertificate, HasDocumentForm, HasForm, HasLimit, HasNumber, HasOpening, HasOptionalNumber, HasTable, HasTables, HasWord, IsInvocation, IsInvocationOf, IsNamed, RefusesCommand, asks_for_shortest, is_flag_set, is_input, is_input_shared, is_limit_excluded, is_table_twice, path_in, path_of, rows_in, table_in};
+ghost use Rattle.cn_words.specs.GivenCommands.{Finds, HasAnswerForm, HasCertificate, HasDocumentForm, HasForm, HasLimit, HasNumber, HasOpening, HasOptionalNumber, HasTable, HasTables, HasWord, IsInvocation, IsInvocationOf, IsNamed, RefusesCommand, asks_for_shortest, is_flag_set, is_input, is_input_shared, is_limit_excluded, is_of_plan, is_table_twice, path_in, path_of, rows_in, table_in};
 ghost use Rattle.cn_words.specs.declared.commands.CommandFault.TheVariants.{OutOfMemory};
 
+use crate::plan_certificates::{check_shortest, find_shortest};
 use crate::without_certificate::{
-    RunWords, asks_for_shortest, excludes_certificate, is_flag_set, plan_table, run_table,
-    run_words,
+    RunWords, asks_for_shortest, excludes_certificate, is_flag_set, is_of_plan, plan_table,
+    run_table, run_words,
 };
 use clap::ArgMatches;
 use cn_form::{AnswerForm, DocumentForm, PlanForm};
@@ -46,6 +47,11 @@ pub enum Command<'a> {
     },
     /// Writes the certificate of the type's number without reads.
     FindUnread,
+    /// Writes a certificate of the shortest plan.
+    FindShortest {
+        /// How many processes there are, if a number was given.
+        processes: Option<u8>,
+    },
     /// Writes the table, or every flaw of it.
     Lint {
         /// The form of the answer.
@@ -62,6 +68,13 @@ pub enum Command<'a> {
     },
     /// Checks the certificate of a number without reads.
     CheckUnread {
+        /// The certificate.
+        certificate: TextSource<'a>,
+        /// The form of the answer.
+        form: AnswerForm,
+    },
+    /// Checks the certificate of a plan.
+    CheckShortest {
         /// The certificate.
         certificate: TextSource<'a>,
         /// The form of the answer.
@@ -263,7 +276,7 @@ fn optional_limit(words: &ArgMatches<'_>) -> Option<Option<u8>>
     optional_number(words, "limit")
 }
 
-fn certificate<'a>(words: &ArgMatches<'a>) -> Option<TextSource<'a>>
+pub(crate) fn certificate<'a>(words: &ArgMatches<'a>) -> Option<TextSource<'a>>
     ensures { Finds (HasCertificate (rows_in words.now)) result }
 {
     Some(TextSource::of(word(words, "CERT")?))
@@ -339,15 +352,23 @@ fn tables<'a>(
 }
 
 // Whether the number without reads is asked for.
-fn is_unread(words: &ArgMatches<'_>) -> bool
+pub(crate) fn is_unread(words: &ArgMatches<'_>) -> bool
     ensures { result ≡ is_flag_set (codes "without-read") (rows_in words.now) }
 {
     is_flag_set(words, "without-read")
 }
 
+// Whether the shortest plan is asked for.
+fn is_shortest(words: &ArgMatches<'_>) -> bool
+    ensures { result ≡ is_flag_set (codes "shortest") (rows_in words.now) }
+{
+    is_flag_set(words, "shortest")
+}
+
 // The number without reads has no limit.
 fn find_unread<'a>(words: &ArgMatches<'a>) -> Option<Command<'a>>
-    requires { is_flag_set (codes "without-read") (rows_in words.now) ≡ true }
+    requires unread { is_flag_set (codes "without-read") (rows_in words.now) ≡ true }
+    requires number { is_of_plan (rows_in words.now) ≡ false }
     ensures { Finds (IsNamed (codes "find") (rows_in words.now)) result }
 {
     match word(words, "limit") {
@@ -359,6 +380,12 @@ fn find_unread<'a>(words: &ArgMatches<'a>) -> Option<Command<'a>>
 fn find<'a>(words: &ArgMatches<'a>) -> Option<Command<'a>>
     ensures { Finds (IsNamed (codes "find") (rows_in words.now)) result }
 {
+    if is_shortest(words) {
+        return find_shortest(words);
+    }
+    if is_of_plan(words) {
+        return None;
+    }
     if is_unread(words) {
         return find_unread(words);
     }
@@ -409,6 +436,9 @@ fn lint<'a>(words: &ArgMatches<'a>) -> Option<Command<'a>>
 fn check<'a>(words: &ArgMatches<'a>) -> Option<Command<'a>>
     ensures { Finds (IsNamed (codes "check") (rows_in words.now)) result }
 {
+    if is_shortest(words) {
+        return check_shortest(words);
+    }
     let certificate = certificate(words)?;
     let form = answer_form(words)?;
     if is_unread(words) {

@@ -15,6 +15,7 @@
 #![tactic(auto)]
 
 mod commands;
+mod plan_certificates;
 mod replies;
 mod without_certificate;
 mod words;

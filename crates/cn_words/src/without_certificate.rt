@@ -2,7 +2,7 @@
 //! `--shortest` and `--without-read`.
 ghost use Rattle.std.specs.Prelude.{◌≡◌};
 ghost use Rattle.cn_words.specs.GivenCommands.{Finds, HasPlanTable, HasRun, HasRunTable};
-ghost use Rattle.cn_words.specs.GivenCommands.{asks_for_shortest, excludes_certificate, is_flag_set, rows_in};
+ghost use Rattle.cn_words.specs.GivenCommands.{asks_for_shortest, excludes_certificate, is_flag_set, is_of_plan, rows_in};
 
 use crate::commands::{TextSource, answer_form, list, optional_number, table_word, word};
 use clap::ArgMatches;
@@ -40,13 +40,20 @@ pub(crate) fn asks_for_shortest(words: &ArgMatches<'_>) -> bool
     is_flag_set(words, "shortest") || is_flag_set(words, "without-read")
 }
 
-// Whether a word is there that no command by a certificate has.
+// Whether a word is there that no command by a certificate of a number has.
 pub(crate) fn excludes_certificate(words: &ArgMatches<'_>) -> bool
     ensures { result ≡ excludes_certificate (rows_in words.now) }
 {
     is_flag_set(words, "recoverable")
         || asks_for_shortest(words)
         || word(words, "processes").is_some()
+}
+
+// Whether a word is there that only the shortest plan has.
+pub(crate) fn is_of_plan(words: &ArgMatches<'_>) -> bool
+    ensures { result ≡ is_of_plan (rows_in words.now) }
+{
+    is_flag_set(words, "shortest") || word(words, "processes").is_some()
 }
 
 // The words of a run.

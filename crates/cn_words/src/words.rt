@@ -79,6 +79,12 @@ the evidence for each. They may be wider than what classify --without-read write
 number a certificate says nothing from 8 on. No read is added: list every way to look at the object.
 --limit does not stand beside it.
 
+With --shortest writes a certificate of the shortest plan, which show --shortest writes: its nodes,
+for each the start state, how the processes look, their operations and the sizes of the teams; the
+number of processes, and the most own steps of one. The plan is for N processes, or without
+--processes N for as many as the type brings to agreement, up to 8. Neither --limit nor
+--without-read stands beside it.
+
 ",
     "  cnum find --limit 3 < types/test_and_set.toml
 writes a certificate with \"number\":2."
@@ -154,6 +160,11 @@ is accepted, and so is a certificate with another witness or other collisions.
 
 With --without-read CERT is a certificate that find --without-read writes. Writes ok where it is of
 this type and its evidence shows its bounds.
+
+With --shortest CERT is a certificate that find --shortest writes, or another one of a plan. Writes
+ok where it is of this type, its nodes are a tree at each node of which every process can tell which
+team was first, and the numbers of processes and of steps are those of the tree; and then a line on
+how short the plan is: type T processes n objects k steps s. It does not look for a shorter one.
 
 With --as json writes one JSON object, which says whether the certificate is accepted, and else the
 fault, which stands on standard error too.
@@ -531,9 +542,12 @@ fn find<'a>(alloc: Global) -> Result<Command<'a>, AllocError>
     ensures { IfOk result (IsCommand find_words) }
 {
     let without_read = "Writes a certificate of the number without reads, with no limit";
+    let shortest = "Writes a certificate of the shortest plan, with no limit";
     let command = bare_command(alloc, "find", FIND_ABOUT, FIND_AFTER);
     let command = with_argument(Ok(command), limit(alloc));
     let command = with_argument(command, flag(alloc, "without-read", without_read));
+    let command = with_argument(command, flag(alloc, "shortest", shortest));
+    let command = with_argument(command, processes(alloc));
     with_table(alloc, command)
 }
 
@@ -580,8 +594,10 @@ fn check<'a>(alloc: Global) -> Result<Command<'a>, AllocError>
 {
     let help = "The form in which the answer is written";
     let without_read = "Checks a certificate of the number without reads";
+    let shortest = "Checks a certificate of a plan, and tells how short the plan is";
     let command = with_certificate(alloc, "check", CHECK_ABOUT, CHECK_AFTER);
     let command = with_argument(command, flag(alloc, "without-read", without_read));
+    let command = with_argument(command, flag(alloc, "shortest", shortest));
     let command = with_argument(command, form(alloc, &ANSWER_FORMS, help));
     with_table(alloc, command)
 }

@@ -228,6 +228,7 @@ fn certificate_of<'a>(command: &Command<'a>) -> Option<TextSource<'a>>
     match *command {
         Command::Check { certificate, .. }
         | Command::CheckUnread { certificate, .. }
+        | Command::CheckShortest { certificate, .. }
         | Command::Explain { certificate, .. }
         | Command::Show { certificate, .. }
         | Command::Agree { certificate, .. } => Some(certificate),
@@ -255,6 +256,9 @@ fn run_on_table<T: Threads + Sync + Disk, S: Read + Copy, O: Write>(
     match *command {
         Command::Find { limit } => commands::find(rt, alloc, table, output, limit),
         Command::FindUnread => commands::find_unread(rt, alloc, table, output),
+        Command::FindShortest { processes } => {
+            commands::find_shortest(alloc, table, output, processes)
+        }
         Command::Lint { form } => commands::lint(alloc, table, output, form),
         Command::Draw => commands::draw(alloc, table, output),
         Command::Why { limit, all, form } => {
@@ -297,6 +301,10 @@ fn run_on_both<T: Threads + Wait + Sync + Disk, S: Read + Copy + Drop, O: Write>
         }
         Command::CheckUnread { form, .. } => {
             let end = commands::check_unread(alloc, &mut table, &mut certificate, output, form);
+            noting_table(alloc, known, &table, end)
+        }
+        Command::CheckShortest { form, .. } => {
+            let end = commands::check_shortest(alloc, &mut table, &mut certificate, output, form);
             noting_table(alloc, known, &table, end)
         }
         Command::Explain { all, form, .. } => {

@@ -1,5 +1,5 @@
 -- The shortest plans for the most processes, and what they cost.
-use Rattle.std.proofs.Common.{arith, ◌≡◌, ℕ, Option, Some, None, ap, subst}
+use Rattle.std.proofs.Common.{arith, ◌≡◌, ℕ, Ok, Option, Some, None, ap, inl, inr, subst}
 use Rattle.cn_table.specs.TypeTable.{TypeTable}
 use Rattle.cn_finding.specs.declared.limits.TheConstants.{GREATEST_LIMIT}
 use Rattle.cn_shortest.specs.Greatest.{IsGreatestCostFound, IsGreatestPlanFound}
@@ -10,8 +10,9 @@ use Rattle.cn_tree_costs.specs.Cost as plans
 use Rattle.cn_tree_costs.specs.Cost.{IsLeastPlan}
 use Rattle.cn_tree_plans.specs.Plan.{TreePlan, tree_of}
 use Rattle.cn_tree_plans.specs.declared.plan.Cost.{Cost}
-use Rattle.cn_app.specs.Commands.Shortest.{HasNoPlan, IsShortestPlan}
+use Rattle.cn_app.specs.Commands.Shortest.{GivesShortestPlan, HasNoPlan, IsShortestPlan}
 use Rattle.cn_app.specs.Commands.ShortestCost.{IsShortestCost}
+use Rattle.cn_app.specs.declared.reports.shortest.AskedPlan.{AskedPlan}
 
 -- the plan that was found is the shortest one
 pub most_found : (t : TypeTable) (looks : Looks) (found : Option TreePlan) (plan : TreePlan) → found ≡ Some plan
@@ -50,3 +51,8 @@ cost_found t (Some c) most is h =
 pub no_cost_found : (t : TypeTable) (found : Option (ℕ × Cost)) → found ≡ None → IsGreatestCostFound t (allowed AtStates) GREATEST_LIMIT found → HasNoPlan t AtStates None
 no_cost_found t None is h = λ n possible. h n possible.0 (omega (arith, possible.1))
 no_cost_found t (Some c) is h = cc
+
+-- the plan that is given is of the table
+pub plan_is_of : (t : TypeTable) (asked : AskedPlan) (plan : TreePlan) → GivesShortestPlan t asked (Ok plan) → plan.table ≡ t
+plan_is_of t asked plan (inl (e, gives, is)) = cc
+plan_is_of t asked plan (inr (possible, gives, found)) = found.least.tree.table

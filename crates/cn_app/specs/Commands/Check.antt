@@ -20,7 +20,9 @@ use Rattle.cn_io.specs.declared.report.Report.{Report}
 use Rattle.cn_io.specs.declared.streams.text.Text.{Text}
 use Rattle.cn_io.specs.declared.fault.AppFault.{AppFault}
 use Rattle.cn_io.specs.declared.fault.AppFault.TheVariants.{Certificate, Check, OutOfMemory}
+use Rattle.cn_io.specs.declared.fault.AppFault.TheVariants.{TreeCertificate, TreeCheck}
 use Rattle.cn_io.specs.declared.fault.AppFault.TheVariants.{UnreadCertificate, UnreadCheck}
+use Rattle.cn_app.specs.Commands.PlanFaults.{tree_fault_data, tree_unread_data}
 
 -- the number of the certificate is that of the table up to its limit
 abbrev pub HasItsNumber : Checked → Type 0
@@ -48,6 +50,8 @@ fault_told (UnreadCertificate fault) = Some (refused_data
     (named_fault (unread_cert_fault_name fault) (unread_cert_fault_number fault)))
 fault_told (UnreadCheck fault) =
     Some (refused_data (named_fault (unread_fault_name fault) (unread_fault_number fault)))
+fault_told (TreeCertificate fault) = Some (tree_unread_data fault)
+fault_told (TreeCheck fault) = Some (refused_data (tree_fault_data fault))
 fault_told e = None
 
 -- the report on a certificate that is refused for this fault, which is told; or memory ran out

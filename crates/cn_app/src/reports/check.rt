@@ -1,9 +1,10 @@
 //! The report of `check`.
 ghost use Rattle.std.specs.Prelude.{◌≡◌, ◌++◌, IfErr, IfOk, codes, string_bytes};
 ghost use Rattle.serde_json.specs.Written.{compact_text};
-ghost use Rattle.cn_json.specs.Verdict.{accepted_data};
+ghost use Rattle.cn_json.specs.Verdict.{accepted_data, refused_data};
 ghost use Rattle.cn_form.specs.declared.answer_form.AnswerForm.TheVariants.{Json};
 ghost use Rattle.cn_app.specs.Commands.Check.{IsFaultReport, IsOkReport, IsVerdictReport};
+ghost use Rattle.cn_app.specs.Commands.PlanFaults.{tree_fault_data};
 ghost use Rattle.cn_app.specs.Forms.{if_json};
 ghost use Rattle.cn_io.specs.declared.fault.AppFault.TheVariants.{OutOfMemory};
 ghost use Rattle.cn_io.specs.declared.report.Outcome.TheVariants.{Refused};
@@ -11,7 +12,8 @@ ghost use Rattle.cn_io.specs.declared.report.Outcome.TheVariants.{Refused};
 use cn_check::laws::accepted_is_right;
 use cn_form::AnswerForm;
 use cn_io::{AppFault, Outcome, Report, with_line_feed};
-use cn_json::{refusal_json, unread_json, verdict_json};
+use cn_json::{refusal_at_node_json, refusal_json, unread_json, verdict_json};
+use cn_tree_check::TreeCheckFault;
 use std::alloc::{AllocError, Global};
 
 /// What is written of an accepted certificate.
@@ -46,6 +48,20 @@ fn refusal(json: String, fault: AppFault) -> Result<Report, AppFault>
     })
 }
 
+/// The verdict on a certificate of a plan tree that is refused for this fault.
+fn plan_refusal(alloc: Global, fault: TreeCheckFault) -> Result<String, AllocError>
+    ensures { IfOk result (λ text. string_bytes text
+        ≡ compact_text (refused_data (tree_fault_data fault))) }
+{
+    let (name, number) = (fault.name(), fault.number());
+    match fault {
+        TreeCheckFault::Meets { node, process } => {
+            refusal_at_node_json(alloc, name, number, node, process)
+        }
+        _ => refusal_json(alloc, name, number),
+    }
+}
+
 /// The fault as JSON, if it is one of the certificate.
 fn told_fault(alloc: Global, fault: AppFault) -> Result<Report, AppFault>
     ensures { IsFaultReport Json fault result }
@@ -62,6 +78,10 @@ fn told_fault(alloc: Global, fault: AppFault) -> Result<Report, AppFault>
                 fault,
             )
         }
+        AppFault::TreeCertificate(unread) => {
+            refusal(refusal_json(alloc, unread.name(), unread.number())?, fault)
+        }
+        AppFault::TreeCheck(refused) => refusal(plan_refusal(alloc, refused)?, fault),
         _ => Err(fault),
     }
 }

@@ -34,6 +34,22 @@ returns-in-CheckUnread g c =
       },
     )
 
+pub returns-in-CheckShortest : goal.returns-in-CheckShortest
+returns-in-CheckShortest g c =
+    let given : Some c.in-CheckShortest.certificate ≡ Some c.args.source = ap certificate_of (sym c.in-CheckShortest.is) ∙ c.requires.command in
+    let same : c.in-CheckShortest.certificate ≡ c.args.source = cc in
+    rw c.in-CheckShortest.is (
+      c.text_of-certificate.result,
+      rw same c.text_of-certificate.ensures,
+      record {
+        table_after = c.check_shortest-end.new.table;
+        certificate_after = c.check_shortest-end.new.certificate;
+        read = c.check_shortest-end.ensures.read;
+        order = inr tt;
+        reported = rw c.noting_table-in-CheckShortest.ensures c.check_shortest-end.ensures.checked;
+      },
+    )
+
 pub returns-in-Explain : goal.returns-in-Explain
 returns-in-Explain g c =
     let given : Some c.in-Explain.certificate ≡ Some c.args.source = ap certificate_of (sym c.in-Explain.is) ∙ c.requires.command in

@@ -14,6 +14,13 @@ returns-in-FindUnread g c = λ stdin. rw c.in-FindUnread.is (record {
   reported = c.find_unread.ensures.found;
 })
 
+pub returns-in-FindShortest : goal.returns-in-FindShortest
+returns-in-FindShortest g c = λ stdin. rw c.in-FindShortest.is (record {
+  after = c.find_shortest.new.table;
+  read = c.find_shortest.ensures.read;
+  reported = c.find_shortest.ensures.found;
+})
+
 pub returns-in-Lint : goal.returns-in-Lint
 returns-in-Lint g c = λ stdin. rw c.in-Lint.is (record {
   after = c.lint.new.table;

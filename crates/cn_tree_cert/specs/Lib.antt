@@ -1,0 +1,5 @@
+pub mod Certificate
+pub mod FaultText
+pub mod Kinds
+pub mod Reading
+pub mod TreeText

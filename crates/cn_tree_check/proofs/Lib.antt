@@ -1,0 +1,4 @@
+pub mod HeadLemmas
+pub mod MakerLemmas
+pub mod RangeLemmas
+pub mod RightLemmas
