@@ -5,8 +5,9 @@ _cnum() {
     COMPREPLY=()
     case ${COMP_WORDS[1]} in
     find)
-        options='--limit --without-read --table -h --help' arguments='FILE'
+        options='--limit --without-read --shortest --processes --table -h --help' arguments='FILE'
         [[ $previous == --limit ]] && values='2 3 4 5 6 7 8'
+        [[ $previous == --processes ]] && values='2 3 4 5 6 7 8'
         ;;
     classify)
         options='--limit --recoverable --without-read --as -h --help' arguments='FILE...'
@@ -18,7 +19,7 @@ _cnum() {
         [[ $previous == --as ]] && values='text json'
         ;;
     check)
-        options='--without-read --as --table -h --help' arguments='CERT FILE'
+        options='--without-read --shortest --as --table -h --help' arguments='CERT FILE'
         [[ $previous == --as ]] && values='text json'
         ;;
     explain)
