@@ -186,7 +186,7 @@ fn costs_by_each_way_to_look(rt: HostRuntime) -> Result<(), Fail> {
     let two = costs(rt.alloc(), queue(), 2)?;
     assert!(rt; two.as_str() == "3 1 6; 3 1 6; 3 1 6; ");
     let three = costs(rt.alloc(), queue(), 3)?;
-    assert!(rt; three.as_str() == "8 2 20; none; none; ");
+    assert!(rt; three.as_str() == "7 2 18; none; none; ");
     let register = costs(rt.alloc(), register(), 2)?;
     assert!(rt; register.as_str() == "none; none; none; ");
     Ok(())
