@@ -677,7 +677,7 @@ def schedules(use):
                 n = json.loads(pathlib.Path(certificate).read_text())["number"]
                 words, starts = ["agree", "--steps", certificate], ["bot" if name == "three_shot" else first_state(name)] * n
                 if plan == "shortest":
-                    words, starts = ["agree", "--shortest", "--steps", "-"], starts_of_shortest(name, n)
+                    words, starts = ["agree", "--shortest", "--processes", str(n), "--steps", "-"], starts_of_shortest(name, n)
                 for turn in range(13):
                     about = f"{name}, {plan}, schedule {turn}"
                     yield from one_schedule(use, about, words, TYPES[name], random_acts(source, n), n, starts)
