@@ -792,8 +792,9 @@ def plans_without_reads(use):
     use.open("#example=catalogue/queue_2&reads=no")
     use.value(CHOOSE_PLAN % "without_reads")
     told = json.loads(called(["show", "--without-read", "--as", "json", "-"], use.table())[0])
-    wanted = f"{size_of_plan(told)}No plan tree without reads"
-    well = use.until(f"document.getElementById('plan-said').textContent.startsWith({json.dumps(wanted)})", 20)
+    said = "document.getElementById('plan-said').textContent"
+    wanted = f"{said}.startsWith({json.dumps(size_of_plan(told) + 'No plan tree')}) && {said}.includes('without reads for so many processes')"
+    well = use.until(wanted, 20)
     yield "the plan without reads", well and use.text("protocol-of").startswith("This protocol reads no state"), use.text("plan-said")
     said = f"The protocol is for {told['processes']} processes, the most for which there is a plan tree without reads."
     yield "for as many processes as it can", use.text("limit-said") == said and use.count(".process") == told["processes"], use.text("limit-said")
