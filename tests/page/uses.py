@@ -1047,8 +1047,8 @@ def adversaries(use):
         use.press("Try to break it")
         well = use.until(TRIED, 240) and use.trial().startswith("All schedules agree, however often processes crash")
         yield f"schedules of {n} that come back", well, use.trial()
-        shown = use.value("Cnum.page.protocol.events.filter(it => it.kind === 'crashes').length")
-        yield "the one that is shown has crashes", shown > 1, shown
+        shown = "Cnum.page.protocol.events.filter(it => it.kind === 'crashes').length"
+        yield "the one that is shown has crashes", use.until(f"{shown} > 1", 5), use.value(shown)
     use.choose("catalogue/cas_3")
     use.limit(4)
     use.press("Try to break it")
@@ -1108,7 +1108,7 @@ def links(use):
     yield "a link shows an example", use.text("number") == "3", use.text("number")
     yield "a limit that is no smaller is none", use.until("!location.hash.includes('limit')", 5), use.value("location.hash")
     told = use.texts(".decision")
-    yield "and its run", told[0].startswith("4 steps, decides") and told[2] == "2 steps, undecided, stopped", told
+    yield "and its run", told[0].startswith("4 of 4 steps, decides") and told[2] == "2 of 8 steps, undecided, stopped", told
     use.open()
     use.give(SLOT.replace('"b", "b", "b"', '"b", "a", "b"'))
     kept = use.until("location.hash.startsWith('#table=')")
@@ -1266,7 +1266,7 @@ def explanations(use):
     yield "for one process there is nothing to say or choose", use.is_hidden("limit-part") and use.text("limit-said") == "", use.text("limit-said")
     use.choose("catalogue/cas_3")
     said = use.text("limit-said"), use.count(".process"), use.text("fault")
-    yield "a type with many choices has evidence too", " 7 are the most" in said[0] and said[1:] == (7, ""), said
+    yield "a type with many choices has evidence too", "for 8 processes. Why is for 7:" in said[0] and said[1:] == (8, ""), said
     use.choose("types/three_shot")
     label = use.value("document.querySelector('#why > button').textContent")
     whole = use.value("JSON.parse(Cnum.page.certificate).collisions.length")
