@@ -48,6 +48,7 @@ class Type:  # states, operations, processes and entries have numbers, from 0
             teams = (itertools.combinations_with_replacement(some, it) for it in (size, n - size))
             yield from ([start, [*a], [*b]] for a, b in itertools.product(*teams) if size < n - size or a <= b)
     def check(self, certificate):  # a witness for the number; none for one process more, and so none for still more
+        if certificate["version"] == 3: return self.check_stocks(certificate)
         if certificate["version"] == 4: return Unread(self).check(certificate)
         if certificate["version"] == 5: return self.check_tree(certificate)
         demand([*sorted(certificate)] == "collisions limit number type version witness".split(), "another key")
@@ -64,6 +65,58 @@ class Type:  # states, operations, processes and entries have numbers, from 0
         for i, (choice, entry) in enumerate(itertools.zip_longest(choices, entries)):
             demand(type(entry) is list and entry[:3] == choice, f"entry {i} is not of the next choice, {choice}")
             demand(are_numbers(entry[:6:3], *entry[1:3], *entry[4:]) and self.is_collision(*entry), f"entry {i}: no collision")
+    def bounds_of(self, certificate):  # what a certificate says of a least and a greatest number: the numbers, and what shows each
+        demand([*sorted(certificate)] == "at_least at_most least most type version".split(), "another key")
+        low, high, least, most, name, version = (certificate[key] for key in sorted(certificate))
+        demand(name == self.name and are_numbers([version, low or 0, high or 0]) and low is not False is not high, "the type, or a number")
+        [(key, shown)] = [(None, [])] if least is None else least.items()
+        demand((high is None or low and low <= high) and low != 0, "the bounds")
+        return low, high, key, shown, most
+    def check_stocks(self, certificate):  # a witness, or operations that last; and joins that leave the operations of each stock of one more in one part
+        low, high, key, shown, most = self.bounds_of(certificate)
+        demand(max(low or 0, high or 0) <= MOST_STATES and (most is None) == (high is None), "the bounds")
+        numbers = flat([shown, [] if most is None else most])
+        demand(are_numbers(numbers) and max(numbers, default=0) < 256, "a number of the evidence")
+        ways = {None: lambda: low == 1, "witness": lambda: self.tells(low, *shown), "lasting": lambda: low is None and self.last(*shown)}
+        demand(ways[key](), "the lower bound is not shown")
+        for place, join in enumerate(most or []):
+            demand(self.is_join(*join), f"join {place}: none")
+        demand(high != 1 or all(row[last][0] == response for row in self.act for response, last in row), "one operation tells two processes")
+        for start in range(len(self.states)) if high else ():
+            needs = [(collections.Counter(one) | collections.Counter(two), one[0], two[0]) for q, one, _, two, _ in most if q == start]
+            self.connect(needs, [], 0, high + 1)
+    def tells(self, n, start, a, b):  # each team has other operations; each operation sees which team was first, whatever words within all of them are done
+        self.check_known(start, a, b)
+        if n == 2: return len(a) == len(b) == 1 and self.is_witness(start, a, b)
+        if len(a + b) != n or not a or not b or {*a} & {*b}: return False
+        all_of, ends = collections.Counter(a + b), {True: set(), False: set()}
+        for side, firsts in ((True, a), (False, b)):  # a scene: the operations that are done, the state, and what was asked, with its response
+            new = {(frozenset({o: 1}.items()), last, asked) for o in firsts for response, last in [self.act[o][start]] for asked in (None, (o, response))}
+            while new:
+                ends[side] |= {(last, asked) for _, last, asked in new if asked}
+                new = {(frozenset({**dict(done), o: dict(done).get(o, 0) + 1}.items()), last, now) for done, state, asked in new for o in all_of
+                       if dict(done).get(o, 0) < all_of[o] for response, last in [self.act[o][state]] for now in {asked, asked or (o, response)}}
+        return not ends[True] & ends[False]
+    def last(self, start, many, single, alone, behind, first):  # `many` keeps each of the sets; none of the last one is in another
+        self.check_known(start, [many, single], [])
+        after = lambda o, states: {self.act[o][state][1] for state in states}
+        closed = all(max(it) < len(self.states) and after(many, it) <= {*it} for it in (alone, behind, first))
+        begun = start in alone and after(single, after(many, alone)) <= {*behind} and after(single, [start]) <= {*first}
+        return many != single and closed and begun and not {*first} & {*alone, *behind}
+    def check_known(self, start, *lists):  # a state, and operations
+        demand(start < len(self.states) and all(o < len(self.act) for them in lists for o in them), "a state or an operation that is none of the type")
+    def is_join(self, start, one, i, two, j):  # from the state, two words show an operation the same response and the same last state
+        self.check_known(start, one, two)
+        demand(i < len(one) and j < len(two) and one[i] == two[j], "a place that is none, or two operations")
+        (shown, last), (other, end) = (self.run(start, word, range(len(word))) for word in (one, two))
+        return (shown[i], last) == (other[j], end)
+    def connect(self, needs, there, o, left):  # all stocks with these operations and so many more, from this one on
+        if o == len(self.act):
+            part = {*there[:1]}
+            while more := {x for _, *pair in needs for x in pair if part & {*pair}} - part: part |= more
+            return demand(part >= {*there}, f"joins do not connect {there}")
+        for count in range(left if o + 1 == len(self.act) else 0, left + 1):
+            self.connect([it for it in needs if it[0][o] <= count], there + [o] * (count > 0), o + 1, left - count)
     def is_team_witness(self, start, look, operations, team_of):  # by its response, and by what it sees of the last state, each process tells the first team
         seen = [look and q if type(look) is bool else self.act[look][q][0] for q in range(len(self.states))]
         told, everyone = {}, range(len(operations))  # what a process has seen, and the team that was first then
@@ -142,11 +195,8 @@ class Unread(Type):  # a type that is not read, with one state for all that no o
         starts = ([(start, a, b, p, q) for p in range(len(a)) for q in range(len(b))] for start, a, b in self.choices(n, 4))
         return all(leads_back(*it) for it in turns) and all(any(begins(*it) for it in some) for some in starts)
     def check(self, certificate):
-        demand([*sorted(certificate)] == "at_least at_most least most type version".split(), "another key")
-        low, high, least, most, name, version = (certificate[key] for key in sorted(certificate))
-        demand(name == self.name and are_numbers([version, low or 0, high or 0]) and low is not False is not high, "the type, or a number")
-        demand((low or 1) <= 8 and (high is None or low and low <= high <= 7), "the bounds")
-        [(key, shown)] = [(None, [])] if least is None else least.items()
+        low, high, key, shown, most = self.bounds_of(certificate)
+        demand((low or 1) <= 8 and (high or 1) <= 7, "the bounds")
         numbers = flat([shown[:4], [] if most is None else most])
         demand(are_numbers(numbers) and max(numbers, default=0) < 256 and shown[4:] in ([], ["A"], ["B"]), "a number of the evidence")
         ways = {None: lambda n: n == 1, "visible": self.visible, "further": self.further, "signs": self.signs}

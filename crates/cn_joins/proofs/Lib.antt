@@ -1,0 +1,7 @@
+pub mod PlacedWords
+pub mod Soundness
+pub mod Finite
+pub mod Gathering
+pub mod Joined
+pub mod TwoProcesses
+pub mod Decisions

@@ -1,0 +1,9 @@
+pub mod Sets
+pub mod Needs
+pub mod Seen
+pub mod Faults
+pub mod FaultText
+pub mod LeastFaults
+pub mod JoinFaults
+pub mod MostFaults
+pub mod LastingParts

@@ -1,0 +1,125 @@
+use Rattle.std.proofs.Common.{◌≡◌, ℕ, Bool, List, All, inl, inr, ap, arith, length, get_or, refl, subst, sym, ◌∙◌, true, false, true≢false}
+use Rattle.std.specs.Prelude.{IsBitSet, slice_index}
+use Rattle.cn_choice.specs.Discerning.{IsDiscerning}
+use Rattle.cn_outcomes.proofs.LastProcess.{zero_has_none}
+use Rattle.cn_stocks.proofs.SplitLemmas.{uncovered}
+use Rattle.cn_stocks.proofs.Times.{times_of_place}
+use Rattle.cn_joins.specs.Joins.{Join, KeepsApart, beginning}
+use Rattle.cn_stock_find.specs.Crossing.{IsCrossing}
+use Rattle.cn_stock_find.specs.Reached.{AreReached, Covers, IsJoinFrom}
+use Rattle.cn_stock_find.proofs.CrossingLemmas.{none_match}
+use Rattle.cn_stock_find.proofs.ReachLemmas.{all_more, all_reached, greater_set, more_one, more_trans, none_more, reached_across}
+use Rattle.cn_stock_find.proofs.connect.connect.Goals as goal
+
+pub bounds-stock-0 : goal.bounds-stock-0
+bounds-stock-0 c = omega (arith, c.requires.sets.1, c.requires.sets.2.some)
+
+pub with-first-requires : goal.with-first-requires
+with-first-requires c =
+    let stock = c.args.stock.now in
+    let known = c.requires.stock (get_or stock 0 0) (times_of_place stock 0 (omega (arith, c.requires.sets.1, c.requires.sets.2.some))) in
+    omega (arith, known, c.operations-operations.ensures.number, c.operations-operations.ensures.range.1)
+
+pub reached-set-requires : goal.reached-set-requires
+reached-set-requires c = subst (All (IsJoinFrom c.args.table.now c.args.start)) (sym c.as_slice.ensures.value) c.requires.joins
+
+pub loop-is_whole-init : goal.loop-is_whole-init
+loop-is_whole-init c =
+    let first = slice_index c.args.stock.now 0 in
+    let t = c.args.table.now in
+    let joins = c.args.joins.now.items in
+    let only : AreReached joins c.args.start c.args.stock.now first c.with-first.result = λ chosen keeps g b. elim ((c.with-first.ensures g).0 b) [ inl z ↦ absurd (zero_has_none g z) | inr e ↦ ap chosen e ] in
+    record {
+      first_in = c.reached-set.ensures.larger first ((c.with-first.ensures first).1 (inr refl));
+      reached = subst (λ (l : List Join). AreReached l c.args.start c.args.stock.now first c.reached-set.result) c.as_slice.ensures.value
+          (c.reached-set.ensures.reached first (subst (λ (l : List Join). AreReached l c.args.start c.args.stock.now first c.with-first.result) (sym c.as_slice.ensures.value) only));
+      more = none_more t c.args.start joins;
+      are = c.requires.joins;
+      whole = c.covers-is_whole.ensures;
+    }
+
+pub crossing-requires-clause-inside : goal.crossing-requires-clause-inside
+crossing-requires-clause-inside c =
+    let stock = c.args.stock.now in
+    (slice_index stock 0, times_of_place stock 0 (omega (arith, c.requires.sets.1, c.requires.sets.2.some)), c.loop-is_whole.invariant.first_in)
+
+pub crossing-requires-clause-outside : goal.crossing-requires-clause-outside
+crossing-requires-clause-outside c =
+    uncovered (length c.args.table.now.operations) c.args.stock.now c.loop-is_whole.set c.requires.stock (λ all. true≢false (sym (c.loop-is_whole.invariant.whole.1 all) ∙ c.loop-is_whole-test.true))
+
+pub returns-in_default : goal.returns-in_default
+returns-in_default c =
+    let t = c.args.table.now in
+    let stock = c.args.stock.now in
+    record {
+      more = c.loop-is_whole.invariant.more;
+      connected = λ yes. absurd (true≢false (sym yes));
+      splits = λ no. none_match (IsDiscerning t (length stock)) (IsCrossing t c.args.start stock c.loop-is_whole.set) c.in_ok-found.found c.in_default.not-Some c.in_ok-found.ensures;
+    }
+
+pub first_operation-requires : goal.first_operation-requires
+first_operation-requires c =
+    let cross = rw c.in-Some.is at c.in_ok-found.ensures in
+    let place = cross.is_join.second.has_place in
+    let long = ap (λ (x : Join). length x.second.word) c.join.view_is in
+    omega (arith, place, long)
+
+pub with-with_second-requires : goal.with-with_second-requires
+with-with_second-requires c =
+    let cross = rw c.in-Some.is at c.in_ok-found.ensures in
+    let j = c.in-Some.join in
+    let e : c.first_operation.result ≡ beginning j.second = c.first_operation.ensures ∙ ap (λ (x : Join). beginning x.second) c.join.view_is in
+    let known = cross.is_join.second.known (get_or j.second.word 0 0) (times_of_place j.second.word 0 (omega (arith, cross.is_join.second.has_place))) in
+    omega (arith, e, known, c.operations-operations.ensures.number, c.operations-operations.ensures.range.1)
+
+pub reached-set-requires-in-loop-is_whole : goal.reached-set-requires-in-loop-is_whole
+reached-set-requires-in-loop-is_whole c =
+    let t = c.args.table.now in
+    let cross = rw c.in-Some.is at c.in_ok-found.ensures in
+    let old = c.loop-is_whole.joins.items in
+    let new = c.push.new.self.items in
+    let one = more_one t c.args.start old new c.in-Some.join c.in_ok-push.ensures.items (cross.is_join, cross.within.same_start) in
+    subst (All (IsJoinFrom t c.args.start)) (sym c.as_slice-in-loop-is_whole.ensures.value) (all_more t c.args.start old new one c.loop-is_whole.invariant.are)
+
+pub loop-is_whole-preserved : goal.loop-is_whole-preserved
+loop-is_whole-preserved c =
+    let first = slice_index c.args.stock.now 0 in
+    let t = c.args.table.now in
+    let i = c.loop-is_whole.invariant in
+    let cross = rw c.in-Some.is at c.in_ok-found.ensures in
+    let j = c.in-Some.join in
+    let old = c.loop-is_whole.joins.items in
+    let new = c.push.new.self.items in
+    let e : c.first_operation.result ≡ beginning j.second = c.first_operation.ensures ∙ ap (λ (x : Join). beginning x.second) c.join.view_is in
+    let one = more_one t c.args.start old new j c.in_ok-push.ensures.items (cross.is_join, cross.within.same_start) in
+    let across = reached_across t old new c.args.start c.args.stock.now first c.loop-is_whole.set c.with-with_second.result j c.in_ok-push.ensures.items i.reached cross
+    (λ g b. elim ((c.with-with_second.ensures g).0 b) [ inl s ↦ inl s | inr h ↦ inr (h ∙ e) ]) in
+    record {
+      first_in = c.reached-set-in-loop-is_whole.ensures.larger first ((c.with-with_second.ensures first).1 (inl i.first_in));
+      reached = subst (λ (l : List Join). AreReached l c.args.start c.args.stock.now first c.reached-set-in-loop-is_whole.result) c.as_slice-in-loop-is_whole.ensures.value
+          (c.reached-set-in-loop-is_whole.ensures.reached first
+          (subst (λ (l : List Join). AreReached l c.args.start c.args.stock.now first c.with-with_second.result) (sym c.as_slice-in-loop-is_whole.ensures.value) across));
+      more = more_trans t c.args.start c.args.joins.now.items old new i.more one;
+      are = all_more t c.args.start old new one i.are;
+      whole = c.covers-is_whole-in-loop-is_whole.ensures;
+    }
+
+pub loop-is_whole-smaller : goal.loop-is_whole-smaller
+loop-is_whole-smaller c =
+    let cross = rw c.in-Some.is at c.in_ok-found.ensures in
+    let j = c.in-Some.join in
+    let x = c.first_operation.result in
+    let e : x ≡ beginning j.second = c.first_operation.ensures ∙ ap (λ (x : Join). beginning x.second) c.join.view_is in
+    let larger = c.reached-set-in-loop-is_whole.ensures.larger in
+    let greater = greater_set c.loop-is_whole.set c.reached-set-in-loop-is_whole.result x (λ g b. larger g ((c.with-with_second.ensures g).1 (inl b))) (larger x ((c.with-with_second.ensures x).1 (inr refl)))
+    (subst (λ (y : ℕ). ¬ IsBitSet c.loop-is_whole.set y) (sym e) cross.outside) in
+    omega (arith, greater, c.reached-set-in-loop-is_whole.type_inv)
+
+pub returns : goal.returns
+returns c =
+    let i = c.loop-is_whole.invariant in
+    record {
+      more = i.more;
+      connected = λ yes. all_reached c.loop-is_whole.joins.items c.args.start c.args.stock.now (slice_index c.args.stock.now 0) c.loop-is_whole.set i.reached (i.whole.0 c.loop-is_whole-test.false);
+      splits = λ no. absurd (true≢false no);
+    }

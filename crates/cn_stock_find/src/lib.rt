@@ -1,0 +1,27 @@
+//! The search for certificates by stocks.
+//!
+//! [`joins_against`] answers joins as evidence that a type is not n-discerning, and
+//! [`lasting_sets`] sets of states as evidence that two operations last. [`find_stocks`] answers a
+//! whole certificate: the bounds of the number of a type, and evidence for each.
+//!
+//! ```text
+//! let certificate = find_stocks(rt, alloc, &table, Some(3))?;
+//! println!(rt; "{}", write_stock_certificate(alloc, &certificate)?)?;
+//! ```
+#![tactic(auto)]
+
+mod connect;
+mod crossing;
+mod find;
+mod joins;
+mod lasting;
+mod level;
+mod notices;
+mod reach;
+#[cfg(test)]
+mod tests;
+mod words;
+
+pub use find::find_stocks;
+pub use joins::joins_against;
+pub use lasting::lasting_sets;
