@@ -21,14 +21,13 @@ var Cnum = globalThis.Cnum || {};
     Cnum.numberText = function (number) {
         if (number === 'infinite') return say('infinite');
         if (typeof number !== 'object') return String(number);
-        if ('from' in number) return say('range', number);
         const { at_least: least, at_most: most } = number;
         return most ? say('not_decided', { least, most }) : say('at_least', { least });
     };
 
     // The least and the greatest that a number can be.
-    Cnum.leastOf = number => (number === 'infinite' ? Infinity : number.from || number.at_least || number);
-    Cnum.mostOf = number => (typeof number === 'number' ? number : number.to || number.at_most || Infinity);
+    Cnum.leastOf = number => (number === 'infinite' ? Infinity : number.at_least || number);
+    Cnum.mostOf = number => (typeof number === 'number' ? number : number.at_most || Infinity);
 
     // What a number says in one sentence: with reads, of processes that can read the whole state of an object too, and without
     // reads, of processes that have the operations of the table alone.
@@ -37,7 +36,7 @@ var Cnum = globalThis.Cnum || {};
     // The question why a number is what it is.
     Cnum.questionOf = function (number) {
         if (number === 'infinite') return say('why_any_number');
-        return typeof number === 'object' ? say('why_range') : say('why_this_number', { count: number, more: number + 1 });
+        return typeof number === 'object' ? say('why_bounds') : say('why_this_number', { count: number, more: number + 1 });
     };
 
     function howManyCan(number) {
@@ -47,7 +46,7 @@ var Cnum = globalThis.Cnum || {};
         if (count === most) return count === 1 ? say('can_alone') : say('can_exactly', { count, more });
         if (most === Infinity) return count === 1 ? say('can_unknown') : say('can_at_least', { count });
         if (count === 1) return say('can_undecided', { more });
-        return say(number.from ? 'can_range' : 'can_between', { count, more });
+        return say('can_between', { count, more });
     }
 
     // The parts of a fault line: `cnum: SOURCE: NUMBER NAME PLACE`, or `cnum: ` and words. In `classify` the name of
@@ -58,9 +57,9 @@ var Cnum = globalThis.Cnum || {};
         return Number(number) ? { name, place } : { name: words.join('_').split(':').join('') };
     };
 
-    // The words that check a certificate: one without reads has a version of its own, and so has one of a plan.
+    // The words that check a certificate: one by stocks has a version of its own, and so have one without reads and one of a plan.
     Cnum.wordsOfCheck = function (text) {
-        const options = { 4: ['--without-read'], 5: ['--shortest'] };
+        const options = { 3: ['--stocks'], 4: ['--without-read'], 5: ['--shortest'] };
         try {
             return ['check', ...(options[JSON.parse(text).version] || [])];
         } catch {
@@ -72,7 +71,8 @@ var Cnum = globalThis.Cnum || {};
     Cnum.inWords = function ({ status, stderr }, fault = Cnum.faultOf(stderr)) {
         const named = `fault_${fault.name}`;
         const key = status === null ? 'fault_failed' : named in Cnum.texts ? named : 'fault_other';
-        const place = [fault.place, fault.node, fault.process, fault.entry].find(it => it !== undefined);
+        const { entry, join, node, operation, process, state } = fault;
+        const place = [fault.place, node, process, entry, join, operation, state].find(it => it !== undefined);
         return say('in_words', { sentence: say(key, { place }), line: stderr.trim() });
     };
 })();

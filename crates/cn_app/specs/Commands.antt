@@ -3,6 +3,7 @@ pub mod Agree
 pub mod AgreeShortest
 pub mod Check
 pub mod CheckShortest
+pub mod CheckStocks
 pub mod CheckUnread
 pub mod Classify
 pub mod ClassifyEach
@@ -10,6 +11,7 @@ pub mod Draw
 pub mod Explain
 pub mod Find
 pub mod FindShortest
+pub mod FindStocks
 pub mod FindUnread
 pub mod Lint
 pub mod Lives

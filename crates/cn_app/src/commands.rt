@@ -15,6 +15,7 @@ mod of_logs;
 mod of_plan_certificates;
 mod of_several_tables;
 mod of_shortest_plans;
+mod of_stocks;
 mod of_tables;
 
 pub use of_certificates::{agree, check, check_unread, explain, show};
@@ -23,6 +24,7 @@ pub use of_logs::{replay, serve};
 pub use of_plan_certificates::{check_shortest, find_shortest};
 pub use of_several_tables::{NamedTable, Tell, classify_each};
 pub use of_shortest_plans::{agree_shortest, show_shortest};
+pub use of_stocks::{check_stocks, find_stocks};
 pub use of_tables::{
     classify, draw, find, find_unread, lint, pairs, why, why_recoverable, why_unread,
 };

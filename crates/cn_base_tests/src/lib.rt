@@ -34,6 +34,8 @@ mod proto;
 mod refused;
 #[cfg(test)]
 mod table;
+#[cfg(test)]
+mod telling;
 pub mod types;
 #[cfg(test)]
 mod wide;

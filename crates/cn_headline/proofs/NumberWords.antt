@@ -10,8 +10,8 @@ use Rattle.std.proofs.lemmas.Fmt.{decimal_digit, decimal_injective, digits_decim
 use Rattle.std.proofs.lemmas.List.{append_cancel_left, append_cancel_right}
 use Rattle.std.proofs.lemmas.Str.Parse.{numerals_by_value, tells_digits}
 use Rattle.cn_app.specs.Commands.Classify.{line_with, line_with_both, number_words}
-use Rattle.cn_headline.specs.ConsensusNumber.{IsBelow, IsNumberText, TextAtLeast, TextExactly, TextInfinite, TextRange}
-use Rattle.cn_headline.specs.ConsensusNumber.{at_least, exactly, infinite, range, told}
+use Rattle.cn_headline.specs.ConsensusNumber.{IsBelow, IsNumberText, TextAtLeast, TextExactly, TextInfinite}
+use Rattle.cn_headline.specs.ConsensusNumber.{at_least, exactly, infinite, told}
 
 -- ---- texts without a character
 
@@ -64,15 +64,12 @@ no_digit mark out (c ∷ text) d =
 one_written : decimal 1 ≡ codes "1"
 one_written = decimal_digit 1 (omega arith)
 
--- a comma, a space, the letter a, the letter i
+-- a comma, the letter a, the letter i
 abbrev pub IsMark : ℕ → Type 0
 IsMark mark = (mark < 48) ⊎ (57 < mark)
 
 comma : IsMark 44
 comma = inl (lit< tt)
-
-space : IsMark 32
-space = inl (lit< tt)
 
 letter_a : IsMark 97
 letter_a = inr (lit< tt)
@@ -160,26 +157,6 @@ infinite_without mark low = (
   ),
 )
 
-between_without : (mark : ℕ) → 32 < mark → mark < 111 → HasNo mark (codes " to ")
-between_without mark low high = (
-  other 32 mark (inl low),
-  (
-    other 116 mark (inr (omega (arith, high))),
-    (other 111 mark (inr high), (other 32 mark (inl low), tt)),
-  ),
-)
-
-range_without : (mark least most : ℕ) → IsMark mark → 32 < mark → mark < 111 → least < 2 ^ 64
-    → most < 2 ^ 64 → HasNo mark (range least most)
-range_without mark least most out low high l m =
-    joined mark (decimal least ++ codes " to ") (decimal most)
-    (joined mark (decimal least) (codes " to ") (exactly_without mark least out l) (between_without mark low high))
-    (exactly_without mark most out m)
-
--- the words of a range are those in front of the space, and behind it
-range_by_space : (least most : ℕ) → range least most ≡ decimal least ++ 32 ∷ (codes "to " ++ decimal most)
-range_by_space least most = append_assoc (decimal least) (codes " to ") (decimal most)
-
 pub same_exactly : (m n : ℕ) → m < 2 ^ 64 → n < 2 ^ 64 → exactly m ≡ exactly n → m ≡ n
 same_exactly m n k l e = decimal_injective m n k l e
 
@@ -187,35 +164,14 @@ pub same_at_least : (m n : ℕ) → m < 2 ^ 64 → n < 2 ^ 64 → at_least m ≡
 same_at_least m n k l e =
     decimal_injective m n k l (append_cancel_left (codes "at least ") (decimal m) (decimal n) e)
 
-pub same_range : (a b m n : ℕ) → a < 2 ^ 64 → b < 2 ^ 64 → m < 2 ^ 64 → n < 2 ^ 64
-    → range a b ≡ range m n → (a ≡ m) × (b ≡ n)
-same_range a b m n la lb lm ln e =
-    let parts = before_mark 32 (decimal a) (decimal m) _ _ (exactly_without 32 a space la) (exactly_without 32 m space lm)
-    (sym (range_by_space a b) ∙ (e ∙ range_by_space m n)) in (
-      decimal_injective a m la lm parts.0,
-      decimal_injective b n lb ln (append_cancel_left (codes "to ") (decimal b) (decimal n) parts.1),
-    )
-
 pub exactly_not_at_least : (m n : ℕ) → m < 2 ^ 64 → exactly m ≡ at_least n → ⊥
 exactly_not_at_least m n l e = differs 97 [] _ (exactly m) (exactly_without 97 m letter_a l) (sym e)
 
 pub exactly_not_infinite : (m : ℕ) → m < 2 ^ 64 → exactly m ≡ infinite → ⊥
 exactly_not_infinite m l e = differs 105 [] _ (exactly m) (exactly_without 105 m letter_i l) (sym e)
 
-pub exactly_not_range : (m a b : ℕ) → m < 2 ^ 64 → exactly m ≡ range a b → ⊥
-exactly_not_range m a b l e =
-    differs 32 (decimal a) _ (exactly m) (exactly_without 32 m space l) (sym (e ∙ range_by_space a b))
-
 pub at_least_not_infinite : (m : ℕ) → m < 2 ^ 64 → at_least m ≡ infinite → ⊥
 at_least_not_infinite m l e = differs 105 [] _ (at_least m) (at_least_no_i m l) (sym e)
-
-pub at_least_not_range : (m a b : ℕ) → a < 2 ^ 64 → b < 2 ^ 64 → at_least m ≡ range a b → ⊥
-at_least_not_range m a b l k e =
-    differs 97 [] _ (range a b) (range_without 97 a b letter_a (lit< tt) (lit< tt) l k) e
-
-pub infinite_not_range : (a b : ℕ) → a < 2 ^ 64 → b < 2 ^ 64 → infinite ≡ range a b → ⊥
-infinite_not_range a b l k e =
-    differs 105 [] _ (range a b) (range_without 105 a b letter_i (lit< tt) (lit< tt) l k) e
 
 -- ---- numbers up to a limit in words
 
@@ -252,7 +208,6 @@ pub text_no_comma : (words : List ℕ) → IsNumberText words → HasNo 44 words
 text_no_comma words (TextExactly {n} l) = exactly_without 44 n comma l
 text_no_comma words (TextAtLeast {n} l) = at_least_no_comma n l
 text_no_comma words TextInfinite = infinite_without 44 (lit< tt)
-text_no_comma words (TextRange {least} {most} l m) = range_without 44 least most comma (lit< tt) (lit< tt) l m
 
 -- the parts of a line with both numbers
 pub words_of_both : (name a b x y : List ℕ) → HasNo 44 a → HasNo 44 x

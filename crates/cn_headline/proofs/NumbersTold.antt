@@ -11,21 +11,18 @@ use Rattle.cn_search.specs.Faults.{number_fault}
 use Rattle.cn_search.specs.NumberText.{number_text}
 use Rattle.cn_search.specs.Numbers.{IsNumberOf}
 use Rattle.cn_search.specs.declared.exact.ConsensusNumber.{ConsensusNumber}
-use Rattle.cn_search.specs.declared.exact.ConsensusNumber.TheVariants.{Finite, Infinite, Between}
+use Rattle.cn_search.specs.declared.exact.ConsensusNumber.TheVariants.{Finite, Infinite}
 use Rattle.cn_search.specs.declared.fault.FindFault.TheVariants.{BadLimit}
 use Rattle.cn_app.specs.Commands.Classify.{AreWordsFor, given_limit_fault, number_words}
 use Rattle.cn_headline.specs.ConsensusNumber.{IsBelow, IsNumberText, TellsNumber, TextAtLeast}
-use Rattle.cn_headline.specs.ConsensusNumber.{TextExactly, TextInfinite, TextRange, WordsTell}
-use Rattle.cn_headline.specs.ConsensusNumber.{range, told}
+use Rattle.cn_headline.specs.ConsensusNumber.{TextExactly, TextInfinite, WordsTell, told}
 use Rattle.cn_io.specs.FaultText.{plain_of}
 use Rattle.cn_io.specs.Texts.Contents.{table_in}
 use Rattle.cn_io.specs.declared.fault.AppFault.{AppFault}
 use Rattle.cn_io.specs.declared.fault.AppFault.TheVariants.{Table}
 use Rattle.cn_headline.proofs.NumberWords.{IsSmall, told_small, words_up_to}
-use Rattle.cn_headline.proofs.NumberWords.{same_at_least, same_exactly, same_range}
-use Rattle.cn_headline.proofs.NumberWords.{at_least_not_infinite, at_least_not_range}
-use Rattle.cn_headline.proofs.NumberWords.{exactly_not_at_least, exactly_not_infinite}
-use Rattle.cn_headline.proofs.NumberWords.{exactly_not_range, infinite_not_range}
+use Rattle.cn_headline.proofs.NumberWords.{at_least_not_infinite, exactly_not_at_least}
+use Rattle.cn_headline.proofs.NumberWords.{exactly_not_infinite, same_at_least, same_exactly}
 
 -- ---- limits and tables
 
@@ -57,24 +54,18 @@ read_whole bytes t e = by_test _ _ e
 -- ---- a task
 
 -- a property of numbers of processes, for a type of so many states; up to which limit a number is
--- the greatest with it; and what a number is, solves and excludes
-module _ (D : ℕ → Type 0) (states : ℕ) (UpTo : ℕ → Option ℕ → Type 0) (Is Solves Excluded : ℕ → Type 0)
+-- the greatest with it; and what a number is and solves
+module _ (D : ℕ → Type 0) (states : ℕ) (UpTo : ℕ → Option ℕ → Type 0) (Is Solves : ℕ → Type 0)
     (small : (limit : ℕ) (number : Option ℕ) → limit ≤ 8 → UpTo limit number → IsSmall number)
     (below : (limit : ℕ) (number : Option ℕ) → 2 ≤ limit → UpTo limit number → IsBelow limit number
     → Is (told number))
     (solved : (limit : ℕ) (number : Option ℕ) → 2 ≤ limit → UpTo limit number → Solves (told number))
     (greatest : (n : ℕ) → 1 ≤ n → (2 ≤ n → D n) → ((m : ℕ) → n < m → ¬ D m) → Is n)
-    (enough : (n : ℕ) → 2 ≤ n → D n → Solves n)
-    (excluded : (n : ℕ) → 2 ≤ n → ¬ D n → Excluded n) (few : states < 2 ^ 64) where
+    (enough : (n : ℕ) → 2 ≤ n → D n → Solves n) (few : states < 2 ^ 64) where
   -- what a number with no limit tells
-  pub tells : (number : ConsensusNumber) → IsNumberOf D states number
-      → TellsNumber Is Solves Excluded number
+  pub tells : (number : ConsensusNumber) → IsNumberOf D states number → TellsNumber Is Solves number
   tells (Finite n) is = greatest n is.0 is.2 is.3
   tells Infinite is = λ n two. enough n two (is n two)
-  tells (Between least most) is = (
-    enough least (omega (arith, is.2)) is.0,
-    λ m l. excluded m (omega (arith, is.2, is.3, l)) (is.1 m l),
-  )
 
   finite_small : (n : ℕ) → (n ≤ 2) ⊎ (n ≤ states) → n < 2 ^ 64
   finite_small n (inl l) = omega (arith, l)
@@ -82,7 +73,7 @@ module _ (D : ℕ → Type 0) (states : ℕ) (UpTo : ℕ → Option ℕ → Type
 
   -- the words of a number with no limit
   exact_words_tell : (number : ConsensusNumber) → IsNumberOf D states number
-      → WordsTell Is Solves Excluded (number_text number)
+      → WordsTell Is Solves (number_text number)
   exact_words_tell (Finite n) is =
       let s = finite_small n is.1 in
       let t = tells (Finite n) is in
@@ -90,55 +81,38 @@ module _ (D : ℕ → Type 0) (states : ℕ) (UpTo : ℕ → Option ℕ → Type
         exact = λ m l e. subst Is (same_exactly n m s l e) t;
         at_least = λ m l e. absurd (exactly_not_at_least n m s e);
         infinite = λ e. absurd (exactly_not_infinite n s e);
-        range = λ a b l k e. absurd (exactly_not_range n a b s e);
       }
   exact_words_tell Infinite is = record {
     exact = λ m l e. absurd (exactly_not_infinite m l (sym e));
     at_least = λ m l e. absurd (at_least_not_infinite m l (sym e));
     infinite = λ e. tells Infinite is;
-    range = λ a b l k e. absurd (infinite_not_range a b l k e);
   }
-  exact_words_tell (Between least most) is =
-      let t = tells (Between least most) is in
-      let m_small : most < 2 ^ 64 = omega (arith, is.4, few) in
-      let l_small : least < 2 ^ 64 = omega (arith, is.3, is.4, few) in
-      record {
-        exact = λ m l e. absurd (exactly_not_range m least most l (sym e));
-        at_least = λ m l e. absurd (at_least_not_range m least most l_small m_small (sym e));
-        infinite = λ e. absurd (infinite_not_range least most l_small m_small (sym e));
-        range = λ a b l k e.
-            let same = same_range least most a b l_small m_small l k e in
-            subst (λ (x : ℕ). Solves x × ((m : ℕ) → b < m → Excluded m)) same.0
-            (subst (λ (x : ℕ). Solves least × ((m : ℕ) → x < m → Excluded m)) same.1 t);
-      }
 
   -- the words of a number up to a limit
   limited_words_tell : (limit : ℕ) (number : Option ℕ) → 2 ≤ limit → limit ≤ 8 → UpTo limit number
-      → WordsTell Is Solves Excluded (number_words limit number)
+      → WordsTell Is Solves (number_words limit number)
   limited_words_tell limit number two eight up =
       let s = told_small number (small limit number eight up) in
       elim (words_up_to limit number) [
-        | inl w ↦ subst (WordsTell Is Solves Excluded) (sym w.1) (record {
+        | inl w ↦ subst (WordsTell Is Solves) (sym w.1) (record {
           exact = λ m l e. subst Is (same_exactly (told number) m s l e) (below limit number two up w.0);
           at_least = λ m l e. absurd (exactly_not_at_least (told number) m s e);
           infinite = λ e. absurd (exactly_not_infinite (told number) s e);
-          range = λ a b l k e. absurd (exactly_not_range (told number) a b s e);
         })
-        | inr w ↦ subst (WordsTell Is Solves Excluded) (sym w) (record {
+        | inr w ↦ subst (WordsTell Is Solves) (sym w) (record {
           exact = λ m l e. absurd (exactly_not_at_least m (told number) l (sym e));
           at_least = λ m l e. subst Solves (same_at_least (told number) m s l e) (solved limit number two up);
           infinite = λ e. absurd (at_least_not_infinite (told number) s e);
-          range = λ a b l k e. absurd (at_least_not_range (told number) a b l k e);
         })
       ]
 
   pub words_tell : (limit : Option ℕ) (words : List ℕ) → given_limit_fault limit ≡ None
-      → AreWordsFor (IsNumberOf D states) UpTo limit words → WordsTell Is Solves Excluded words
+      → AreWordsFor (IsNumberOf D states) UpTo limit words → WordsTell Is Solves words
   words_tell None words range (number, is, e) =
-      subst (WordsTell Is Solves Excluded) (sym e) (exact_words_tell number is)
+      subst (WordsTell Is Solves) (sym e) (exact_words_tell number is)
   words_tell (Some limit) words range (number, up, e) =
       let within = limit_range limit range in
-      subst (WordsTell Is Solves Excluded) (sym e) (limited_words_tell limit number within.0 within.1 up)
+      subst (WordsTell Is Solves) (sym e) (limited_words_tell limit number within.0 within.1 up)
 
   -- ---- the words of a number are those of a number
 
@@ -146,8 +120,6 @@ module _ (D : ℕ → Type 0) (states : ℕ) (UpTo : ℕ → Option ℕ → Type
       → IsNumberText (number_text number)
   exact_words_text (Finite n) is = TextExactly (finite_small n is.1)
   exact_words_text Infinite is = TextInfinite
-  exact_words_text (Between least most) is =
-      TextRange (omega (arith, is.3, is.4, few)) (omega (arith, is.4, few))
 
   limited_words_text : (limit : ℕ) (number : Option ℕ) → limit ≤ 8 → UpTo limit number
       → IsNumberText (number_words limit number)

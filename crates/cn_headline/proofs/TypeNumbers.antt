@@ -4,10 +4,6 @@ use Rattle.std.proofs.Common.{arith, inl, inr, sym, ◌∙◌, subst}
 use Rattle.std.proofs.Math.Nat.{eq-or-lt_of_le}
 use Rattle.cn_table.specs.TypeTable.{IsClosed, IsTypeTable, TypeTable}
 use Rattle.cn_choice.specs.Discerning.{IsDiscerning, IsNumberUpTo}
-use Rattle.cn_consensus.specs.Consensus.{IsConsensusProtocol}
-use Rattle.cn_consensus.specs.Protocol.{IsProtocolOf, Protocol}
-use Rattle.cn_consensus.specs.Types.{all_of}
-use Rattle.cn_crashes.specs.RecoverableConsensus.{IsRecoverableConsensusProtocol}
 use Rattle.cn_crashes.specs.RecoverableConsensusNumber.{IsRecoverableConsensusNumber}
 use Rattle.cn_crashes.specs.RecoverableConsensusNumber.{SolvesRecoverableConsensus}
 use Rattle.cn_recover.specs.Recording.{HasRecoverableNumber, IsRecording, IsRecoverableNumberUpTo}
@@ -17,8 +13,8 @@ use Rattle.cn_solvable.specs.Solving.{IsConsensusNumber, SolvesConsensus}
 use Rattle.cn_app.specs.Commands.Classify.{AreNumberWords, AreRecoverableWords, IsClassified}
 use Rattle.cn_app.specs.Commands.Classify.{IsRecoverablyClassified, given_limit_fault}
 use Rattle.cn_app.specs.Commands.Classify.{line_with, line_with_both}
-use Rattle.cn_headline.specs.ConsensusNumber.{IsExcluded, IsNumberText, IsRecoverablyExcluded}
-use Rattle.cn_headline.specs.ConsensusNumber.{TellsConsensus, TellsNumber, TellsRecoverable, WordsTell}
+use Rattle.cn_headline.specs.ConsensusNumber.{IsNumberText, TellsConsensus, TellsNumber}
+use Rattle.cn_headline.specs.ConsensusNumber.{TellsRecoverable, WordsTell}
 use Rattle.cn_headline.proofs.NumbersTold as told_numbers
 use Rattle.cn_headline.proofs.NumberWords.{IsSmall, text_no_comma, words_of_both, words_of_line}
 
@@ -28,9 +24,7 @@ module _ {L V : Type 0} (closed : (t : TypeTable) → IsTypeTable t → IsClosed
     (none : (t : TypeTable) (limit : ℕ) → IsClosed t → 0 < length t.states → 2 ≤ limit
     → IsNumberUpTo t limit None → IsConsensusNumber L V t 1)
     (limited : (t : TypeTable) (limit n : ℕ) → IsNumberUpTo t limit (Some n) → SolvesConsensus t n)
-    (enough : (t : TypeTable) (n : ℕ) → 2 ≤ n → IsDiscerning t n → SolvesConsensus t n)
-    (needs : (t : TypeTable) (n : ℕ) (P : Protocol L V) → IsClosed t → 2 ≤ n
-    → IsProtocolOf (all_of t) n P → IsConsensusProtocol (all_of t) n P → IsDiscerning t n) where
+    (enough : (t : TypeTable) (n : ℕ) → 2 ≤ n → IsDiscerning t n → SolvesConsensus t n) where
   pub tells_up_to : (t : TypeTable) (limit : ℕ) (number : Option ℕ) → IsTypeTable t → 2 ≤ limit
       → IsNumberUpTo t limit number → TellsConsensus L V t limit number
   tells_up_to t limit None table two up =
@@ -56,35 +50,32 @@ module _ {L V : Type 0} (closed : (t : TypeTable) → IsTypeTable t → IsClosed
   ]
 
   pub tells : (t : TypeTable) (number : ConsensusNumber) → IsTypeTable t → HasNumber t number
-      → TellsNumber (IsConsensusNumber L V t) (SolvesConsensus t) (IsExcluded L V t) number
+      → TellsNumber (IsConsensusNumber L V t) (SolvesConsensus t) number
   tells t number table is =
       told_numbers.tells (IsDiscerning t) (length t.states) (IsNumberUpTo t) (IsConsensusNumber L V t)
-      (SolvesConsensus t) (IsExcluded L V t) (small t)
+      (SolvesConsensus t) (small t)
       (λ limit number two up b. (tells_up_to t limit number table two up).exact b)
       (λ limit number two up. (tells_up_to t limit number table two up).solved) (greatest t table)
-      (enough t) (λ n two not P protocol solves. not (needs t n P (closed t table) two protocol solves))
-      (omega (arith, table.states.few)) number is
+      (enough t) (omega (arith, table.states.few)) number is
 
   pub words_tell : (t : TypeTable) (limit : Option ℕ) (words : List ℕ) → IsTypeTable t
       → given_limit_fault limit ≡ None → AreNumberWords t limit words
-      → WordsTell (IsConsensusNumber L V t) (SolvesConsensus t) (IsExcluded L V t) words
+      → WordsTell (IsConsensusNumber L V t) (SolvesConsensus t) words
   words_tell t limit words table range is =
       told_numbers.words_tell (IsDiscerning t) (length t.states) (IsNumberUpTo t) (IsConsensusNumber L V t)
-      (SolvesConsensus t) (IsExcluded L V t) (small t)
+      (SolvesConsensus t) (small t)
       (λ limit number two up b. (tells_up_to t limit number table two up).exact b)
       (λ limit number two up. (tells_up_to t limit number table two up).solved) (greatest t table)
-      (enough t) (λ n two not P protocol solves. not (needs t n P (closed t table) two protocol solves))
-      (omega (arith, table.states.few)) limit words range is
+      (enough t) (omega (arith, table.states.few)) limit words range is
 
   pub words_text : (t : TypeTable) (limit : Option ℕ) (words : List ℕ) → IsTypeTable t
       → given_limit_fault limit ≡ None → AreNumberWords t limit words → IsNumberText words
   words_text t limit words table range is =
       told_numbers.words_text (IsDiscerning t) (length t.states) (IsNumberUpTo t) (IsConsensusNumber L V t)
-      (SolvesConsensus t) (IsExcluded L V t) (small t)
+      (SolvesConsensus t) (small t)
       (λ limit number two up b. (tells_up_to t limit number table two up).exact b)
       (λ limit number two up. (tells_up_to t limit number table two up).solved) (greatest t table)
-      (enough t) (λ n two not P protocol solves. not (needs t n P (closed t table) two protocol solves))
-      (omega (arith, table.states.few)) limit words range is
+      (enough t) (omega (arith, table.states.few)) limit words range is
 
 module _ {L V : Type 0} (closed : (t : TypeTable) → IsTypeTable t → IsClosed t)
     (found : (t : TypeTable) (limit n : ℕ) → IsClosed t → IsRecoverableNumberUpTo t limit (Some n)
@@ -93,10 +84,7 @@ module _ {L V : Type 0} (closed : (t : TypeTable) → IsTypeTable t → IsClosed
     → IsRecoverableNumberUpTo t limit None → IsRecoverableConsensusNumber L V t 1)
     (limited : (t : TypeTable) (limit n : ℕ) → IsRecoverableNumberUpTo t limit (Some n)
     → SolvesRecoverableConsensus t n)
-    (enough : (t : TypeTable) (n : ℕ) → 2 ≤ n → IsRecording t n → SolvesRecoverableConsensus t n)
-    (needs : (t : TypeTable) (n : ℕ) (P : Protocol L V) → IsClosed t → 2 ≤ n
-    → IsProtocolOf (all_of t) n P → IsRecoverableConsensusProtocol (all_of t) n P
-    → IsRecording t n) where
+    (enough : (t : TypeTable) (n : ℕ) → 2 ≤ n → IsRecording t n → SolvesRecoverableConsensus t n) where
   pub tells_recoverable_up_to : (t : TypeTable) (limit : ℕ) (number : Option ℕ) → IsTypeTable t
       → 2 ≤ limit → IsRecoverableNumberUpTo t limit number → TellsRecoverable L V t limit number
   tells_recoverable_up_to t limit None table two up =
@@ -124,31 +112,25 @@ module _ {L V : Type 0} (closed : (t : TypeTable) → IsTypeTable t → IsClosed
 
   pub tells_recoverable : (t : TypeTable) (number : ConsensusNumber) → IsTypeTable t
       → HasRecoverableNumber t number
-      → TellsNumber (IsRecoverableConsensusNumber L V t) (SolvesRecoverableConsensus t)
-      (IsRecoverablyExcluded L V t) number
+      → TellsNumber (IsRecoverableConsensusNumber L V t) (SolvesRecoverableConsensus t) number
   tells_recoverable t number table is =
       told_numbers.tells (IsRecording t) (length t.states) (IsRecoverableNumberUpTo t)
-      (IsRecoverableConsensusNumber L V t) (SolvesRecoverableConsensus t) (IsRecoverablyExcluded L V t)
+      (IsRecoverableConsensusNumber L V t) (SolvesRecoverableConsensus t)
       (small_recoverable t)
       (λ limit number two up b. (tells_recoverable_up_to t limit number table two up).exact b)
       (λ limit number two up. (tells_recoverable_up_to t limit number table two up).solved)
-      (greatest_recoverable t table) (enough t)
-      (λ n two not P protocol solves. not (needs t n P (closed t table) two protocol solves))
-      (omega (arith, table.states.few)) number is
+      (greatest_recoverable t table) (enough t) (omega (arith, table.states.few)) number is
 
   pub recoverable_words_tell : (t : TypeTable) (limit : Option ℕ) (words : List ℕ) → IsTypeTable t
       → given_limit_fault limit ≡ None → AreRecoverableWords t limit words
-      → WordsTell (IsRecoverableConsensusNumber L V t) (SolvesRecoverableConsensus t)
-      (IsRecoverablyExcluded L V t) words
+      → WordsTell (IsRecoverableConsensusNumber L V t) (SolvesRecoverableConsensus t) words
   recoverable_words_tell t limit words table range is =
       told_numbers.words_tell (IsRecording t) (length t.states) (IsRecoverableNumberUpTo t)
-      (IsRecoverableConsensusNumber L V t) (SolvesRecoverableConsensus t) (IsRecoverablyExcluded L V t)
+      (IsRecoverableConsensusNumber L V t) (SolvesRecoverableConsensus t)
       (small_recoverable t)
       (λ limit number two up b. (tells_recoverable_up_to t limit number table two up).exact b)
       (λ limit number two up. (tells_recoverable_up_to t limit number table two up).solved)
-      (greatest_recoverable t table) (enough t)
-      (λ n two not P protocol solves. not (needs t n P (closed t table) two protocol solves))
-      (omega (arith, table.states.few)) limit words range is
+      (greatest_recoverable t table) (enough t) (omega (arith, table.states.few)) limit words range is
 
 -- ---- lines
 

@@ -3,15 +3,10 @@
 use Rattle.std.specs.Prelude.{◌≡◌, ℕ, ◌<◌, ◌≤◌, ◌^◌, List, ◌++◌, codes, Option, Some, None}
 use Rattle.std.specs.Fmt.{decimal}
 use Rattle.cn_table.specs.TypeTable.{TypeTable}
-use Rattle.cn_consensus.specs.Consensus.{IsConsensusProtocol}
-use Rattle.cn_consensus.specs.Protocol.{IsProtocolOf, Protocol}
-use Rattle.cn_consensus.specs.Types.{all_of}
-use Rattle.cn_crashes.specs.RecoverableConsensus.{IsRecoverableConsensusProtocol}
 use Rattle.cn_crashes.specs.RecoverableConsensusNumber.{IsRecoverableConsensusNumber}
 use Rattle.cn_crashes.specs.RecoverableConsensusNumber.{SolvesRecoverableConsensus}
 use Rattle.cn_search.specs.declared.exact.ConsensusNumber.{ConsensusNumber}
 use Rattle.cn_search.specs.declared.exact.ConsensusNumber.TheVariants.{Finite, Infinite}
-use Rattle.cn_search.specs.declared.exact.ConsensusNumber.TheVariants.{Between}
 use Rattle.cn_solvable.specs.Solving.{IsConsensusNumber, SolvesConsensus}
 
 -- the number that is told: 1 where there is none up to the limit
@@ -37,25 +32,13 @@ pub record TellsRecoverable (L V : Type 0) (t : TypeTable) (limit : ℕ) (number
   pub solved : SolvesRecoverableConsensus t (told number)
   pub exact : IsBelow limit number → IsRecoverableConsensusNumber L V t (told number)
 
--- no protocol over the type solves consensus for so many processes
-abbrev pub IsExcluded : Type 0 → Type 0 → TypeTable → ℕ → Type 0
-IsExcluded L V t n = (P : Protocol L V) → IsProtocolOf (all_of t) n P
-    → ¬ IsConsensusProtocol (all_of t) n P
+-- what a number with no limit tells of a task: it is the greatest number of processes for which a
+-- type solves the task, or the type solves it for every number
+abbrev pub TellsNumber : (ℕ → Type 0) → (ℕ → Type 0) → ConsensusNumber → Type 0
+TellsNumber Is Solves (Finite n) = Is n
+TellsNumber Is Solves Infinite = (n : ℕ) → 2 ≤ n → Solves n
 
--- the same for processes that may crash and come back
-abbrev pub IsRecoverablyExcluded : Type 0 → Type 0 → TypeTable → ℕ → Type 0
-IsRecoverablyExcluded L V t n = (P : Protocol L V) → IsProtocolOf (all_of t) n P
-    → ¬ IsRecoverableConsensusProtocol (all_of t) n P
-
--- what a number with no limit tells of a task: a number is the greatest for which a type solves the
--- task, or all are, or it solves it for least, and is excluded for more than most
-abbrev pub TellsNumber : (ℕ → Type 0) → (ℕ → Type 0) → (ℕ → Type 0) → ConsensusNumber → Type 0
-TellsNumber Is Solves Excluded (Finite n) = Is n
-TellsNumber Is Solves Excluded Infinite = (n : ℕ) → 2 ≤ n → Solves n
-TellsNumber Is Solves Excluded (Between least most) =
-    Solves least × ((m : ℕ) → most < m → Excluded m)
-
--- a number in a line of `classify`: N, at least N, infinite, or N to M
+-- a number in a line of `classify`: N, at least N, or infinite
 abbrev pub exactly : ℕ → List ℕ
 exactly n = decimal n
 
@@ -65,20 +48,14 @@ at_least n = codes "at least " ++ decimal n
 abbrev pub infinite : List ℕ
 infinite = codes "infinite"
 
-abbrev pub range : ℕ → ℕ → List ℕ
-range least most = decimal least ++ codes " to " ++ decimal most
-
 -- the words of a number in a line
 pub data IsNumberText : List ℕ → Type 0 where
   TextExactly : {n : ℕ} → n < 2 ^ 64 → IsNumberText (exactly n)
   TextAtLeast : {n : ℕ} → n < 2 ^ 64 → IsNumberText (at_least n)
   TextInfinite : IsNumberText infinite
-  TextRange : {least most : ℕ} → least < 2 ^ 64 → most < 2 ^ 64 → IsNumberText (range least most)
 
 -- what the words of a number in a line tell of a task
-pub record WordsTell (Is Solves Excluded : ℕ → Type 0) (words : List ℕ) : Type 0 where
+pub record WordsTell (Is Solves : ℕ → Type 0) (words : List ℕ) : Type 0 where
   pub exact : (n : ℕ) → n < 2 ^ 64 → words ≡ exactly n → Is n
   pub at_least : (n : ℕ) → n < 2 ^ 64 → words ≡ at_least n → Solves n
   pub infinite : words ≡ infinite → (n : ℕ) → 2 ≤ n → Solves n
-  pub range : (least most : ℕ) → least < 2 ^ 64 → most < 2 ^ 64 → words ≡ range least most
-      → Solves least × ((m : ℕ) → most < m → Excluded m)

@@ -31,19 +31,14 @@ ghost use Rattle.cn_app.specs.declared.reports.lives.AskedLives.{AskedLives};
 ghost use Rattle.cn_unread_number.specs.BoundsText.{bounds_text};
 ghost use Rattle.cn_unread_number.specs.declared.bounds.NumberBounds.{NumberBounds};
 ghost use Rattle.cn_unread_laws.specs.Bounds.{AreBoundsOf, AreSmall};
-ghost use Rattle.cn_headline.specs.ConsensusNumber.{IsExcluded, IsNumberText, IsRecoverablyExcluded};
-ghost use Rattle.cn_headline.specs.ConsensusNumber.{TellsConsensus, TellsNumber, TellsRecoverable};
-ghost use Rattle.cn_headline.specs.ConsensusNumber.{WordsTell};
+ghost use Rattle.cn_headline.specs.ConsensusNumber.{IsNumberText, TellsConsensus, TellsNumber};
+ghost use Rattle.cn_headline.specs.ConsensusNumber.{TellsRecoverable, WordsTell};
 ghost use Rattle.cn_headline.specs.Headline.{Headline};
 
 use cn_agree::laws::plans_reach_consensus;
 use cn_app::Source;
 use cn_choice::laws::{DiscerningType, greatest_is_unique, live_list};
-use cn_consensus::laws::consensus_needs_a_witness;
-use cn_crashes::laws::{
-    number_is_the_recoverable_consensus_number, recording_is_enough,
-    recoverable_consensus_needs_recording,
-};
+use cn_crashes::laws::{number_is_the_recoverable_consensus_number, recording_is_enough};
 use cn_finding::laws::{number_of_finding, one_finding};
 use cn_life_laws::laws::lives_reach_consensus;
 use cn_log::laws::event_lists_are_linearized;
@@ -171,7 +166,7 @@ pub fn headline<V>()
 ///   consensus for any number of processes.
 /// - `line`: the line that `classify` writes tells the same of the type that the bytes spell. `N`
 ///   is its consensus number. With `at least N` objects of the type solve consensus for N
-///   processes, with `infinite` for any number, and with `N to M` for N and for no more than M.
+///   processes, and with `infinite` for any number.
 ///
 /// Source: Ruppert, Determining consensus numbers, 2000.
 pub fn consensus_number<L, V>()
@@ -181,15 +176,14 @@ pub fn consensus_number<L, V>()
     // promise: numbers-tell-consensus (TellsNumber)
     ensures number { (t : TypeTable) (number : ConsensusNumber) → IsTypeTable t
         → HasNumber t number
-        → TellsNumber (IsConsensusNumber L V t) (SolvesConsensus t) (IsExcluded L V t) number }
-    // promise: lines-tell-consensus (WordsTell: exact, at_least, infinite, range)
+        → TellsNumber (IsConsensusNumber L V t) (SolvesConsensus t) number }
+    // promise: lines-tell-consensus (WordsTell: exact, at_least, infinite)
     ensures line { (bytes : List ℕ) (t : TypeTable) (limit : Option ℕ) (line words : List ℕ)
         → table_in bytes ≡ Ok t → IsClassified t limit line → line ≡ line_with t.name words
-        → WordsTell (IsConsensusNumber L V t) (SolvesConsensus t) (IsExcluded L V t) words }
+        → WordsTell (IsConsensusNumber L V t) (SolvesConsensus t) words }
 {
     tables_are_closed();
     spelled_tables();
-    consensus_needs_a_witness::<L, V>();
     witness_is_enough();
     number_is_the_consensus_number::<L, V>();
 }
@@ -234,23 +228,19 @@ pub fn recoverable_consensus_number<L, V>()
     // promise: numbers-tell-recoverable-consensus (TellsNumber)
     ensures number { (t : TypeTable) (number : ConsensusNumber) → IsTypeTable t
         → HasRecoverableNumber t number
-        → TellsNumber (IsRecoverableConsensusNumber L V t) (SolvesRecoverableConsensus t)
-        (IsRecoverablyExcluded L V t) number }
+        → TellsNumber (IsRecoverableConsensusNumber L V t) (SolvesRecoverableConsensus t) number }
     // promise: numbers-tell-recoverable-consensus (IsNumberText, WordsTell)
     ensures line { (bytes : List ℕ) (t : TypeTable) (limit : Option ℕ)
         (line words recoverable : List ℕ)
         → table_in bytes ≡ Ok t → IsRecoverablyClassified t limit line → IsNumberText words
         → line ≡ line_with_both t.name words recoverable
-        → WordsTell (IsConsensusNumber L V t) (SolvesConsensus t) (IsExcluded L V t) words
-        × WordsTell (IsRecoverableConsensusNumber L V t) (SolvesRecoverableConsensus t)
-        (IsRecoverablyExcluded L V t) recoverable }
+        → WordsTell (IsConsensusNumber L V t) (SolvesConsensus t) words
+        × WordsTell (IsRecoverableConsensusNumber L V t) (SolvesRecoverableConsensus t) recoverable }
 {
     tables_are_closed();
     spelled_tables();
-    consensus_needs_a_witness::<L, V>();
     witness_is_enough();
     number_is_the_consensus_number::<L, V>();
-    recoverable_consensus_needs_recording::<L, V>();
     recording_is_enough();
     number_is_the_recoverable_consensus_number::<L, V>();
 }

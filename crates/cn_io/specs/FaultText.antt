@@ -7,6 +7,10 @@ use Rattle.cn_search.specs.declared.fault.FindFault.TheVariants as find
 use Rattle.cn_cert.specs.FaultText.{cert_fault_text}
 use Rattle.cn_cert.specs.declared.fault.CertFault.TheVariants as cert
 use Rattle.cn_check.specs.FaultText.{check_fault_text}
+use Rattle.cn_stock_cert.specs.FaultText.{stock_cert_fault_text}
+use Rattle.cn_stock_cert.specs.declared.fault.StockCertFault.TheVariants as stock_cert
+use Rattle.cn_stock_check.specs.FaultText.{stock_check_fault_text}
+use Rattle.cn_stock_check.specs.declared.fault.StockCheckFault.TheVariants as stock_check
 use Rattle.cn_unread_cert.specs.FaultText.{unread_cert_fault_text}
 use Rattle.cn_unread_cert.specs.declared.fault.UnreadCertFault.TheVariants as unread_cert
 use Rattle.cn_unread_check.specs.FaultText.{unread_fault_text}
@@ -48,6 +52,8 @@ abbrev pub plain_of : AppFault → AppFault
 plain_of (fault.Table table.OutOfMemory) = fault.OutOfMemory
 plain_of (fault.Object table.OutOfMemory) = fault.OutOfMemory
 plain_of (fault.Certificate cert.OutOfMemory) = fault.OutOfMemory
+plain_of (fault.StockCertificate stock_cert.OutOfMemory) = fault.OutOfMemory
+plain_of (fault.StockCheck stock_check.OutOfMemory) = fault.OutOfMemory
 plain_of (fault.UnreadCertificate unread_cert.OutOfMemory) = fault.OutOfMemory
 plain_of (fault.UnreadCheck unread_check.OutOfMemory) = fault.OutOfMemory
 plain_of (fault.TreeCertificate tree_cert.OutOfMemory) = fault.OutOfMemory
@@ -64,10 +70,12 @@ head_of (fault.Argument a) = codes "argument: "
 head_of (fault.Table f) = codes "table: "
 head_of (fault.Object f) = codes "object: "
 head_of (fault.Certificate f) = codes "certificate: "
+head_of (fault.StockCertificate f) = codes "certificate: "
 head_of (fault.UnreadCertificate f) = codes "certificate: "
 head_of (fault.TreeCertificate f) = codes "certificate: "
 head_of (fault.TooLong s) = source_text s
 head_of (fault.Check f) = codes "check: "
+head_of (fault.StockCheck f) = codes "check: "
 head_of (fault.UnreadCheck f) = codes "check: "
 head_of (fault.TreeCheck f) = codes "check: "
 head_of fault.NoWitness = codes "certificate: no witness"
@@ -86,9 +94,11 @@ abbrev pub carried_text : AppFault → List ℕ
 carried_text (fault.Table f) = table_fault_text f
 carried_text (fault.Object f) = table_fault_text f
 carried_text (fault.Certificate f) = cert_fault_text f
+carried_text (fault.StockCertificate f) = stock_cert_fault_text f
 carried_text (fault.UnreadCertificate f) = unread_cert_fault_text f
 carried_text (fault.TreeCertificate f) = tree_cert_fault_text f
 carried_text (fault.Check f) = check_fault_text f
+carried_text (fault.StockCheck f) = stock_check_fault_text f
 carried_text (fault.UnreadCheck f) = unread_fault_text f
 carried_text (fault.TreeCheck f) = tree_fault_text f
 carried_text (fault.Find f) = find_fault_text f
@@ -110,6 +120,7 @@ app_fault_text f = head_of (plain_of f) ++ carried_text (plain_of f) ++ tail_of 
 -- the status of a plain fault
 abbrev pub plain_status : AppFault → ℕ
 plain_status (fault.Check f) = 1
+plain_status (fault.StockCheck f) = 1
 plain_status (fault.UnreadCheck f) = 1
 plain_status (fault.TreeCheck f) = 1
 plain_status fault.NoWitness = 1
@@ -118,6 +129,7 @@ plain_status fault.NoPlanTree = 1
 plain_status (fault.Table f) = 2
 plain_status (fault.Object f) = 2
 plain_status (fault.Certificate f) = 2
+plain_status (fault.StockCertificate f) = 2
 plain_status (fault.UnreadCertificate f) = 2
 plain_status (fault.TreeCertificate f) = 2
 plain_status (fault.TooLong s) = 2

@@ -15,6 +15,10 @@ use Rattle.cn_cert.specs.declared.fault.CertFault.{CertFault}
 use Rattle.cn_cert.specs.declared.fault.CertFault.TheVariants as cert
 use Rattle.cn_check.specs.declared.fault.CheckFault.{CheckFault}
 use Rattle.cn_check.specs.declared.fault.CheckFault.TheVariants as check
+use Rattle.cn_stock_cert.specs.declared.fault.StockCertFault.{StockCertFault}
+use Rattle.cn_stock_cert.specs.declared.fault.StockCertFault.TheVariants as stock_cert
+use Rattle.cn_stock_check.specs.declared.fault.StockCheckFault.{StockCheckFault}
+use Rattle.cn_stock_check.specs.declared.fault.StockCheckFault.TheVariants as stock_check
 use Rattle.cn_unread_cert.specs.declared.fault.UnreadCertFault.{UnreadCertFault}
 use Rattle.cn_unread_cert.specs.declared.fault.UnreadCertFault.TheVariants as unread_cert
 use Rattle.cn_unread_check.specs.declared.fault.UnreadCheckFault.{UnreadCheckFault}
@@ -55,6 +59,7 @@ lint_text None = codes "cnum lint tells each mistake of the table and its place"
 -- the greatest limit that is not refused
 abbrev pub greatest_limit_text : ℕ → List ℕ
 greatest_limit_text limit = codes "the greatest limit for this table is " ++ decimal limit
+    ++ codes "; find --stocks takes every limit"
 
 -- how many processes there are, for INPUTS and SCHEDULE
 abbrev pub processes_text : ℕ → List ℕ
@@ -103,12 +108,26 @@ abbrev pub certificate_hint : CertFault → Option (List ℕ)
 certificate_hint cert.NotJson = Some (codes "a certificate is one JSON object, as find writes it")
 certificate_hint cert.WrongShape = Some (codes
     "a certificate has these keys alone: collisions, limit, number, type, version, witness; "
-    ++ codes "check --without-read is for one of find --without-read, "
+    ++ codes "check --stocks is for one of find --stocks, "
+    ++ codes "check --without-read for one of find --without-read, "
     ++ codes "check --shortest for one of find --shortest")
 certificate_hint cert.Version = Some (codes "the version of a certificate is 1 or 2")
 certificate_hint cert.Range = Some (codes
     "a number or a list is too great for a certificate, or the type has no right name")
 certificate_hint cert.OutOfMemory = None
+
+-- the same of a certificate by stocks
+abbrev pub stock_certificate_hint : StockCertFault → Option (List ℕ)
+stock_certificate_hint stock_cert.NotJson =
+    Some (codes "a certificate is one JSON object, as find --stocks writes it")
+stock_certificate_hint stock_cert.WrongShape =
+    Some (codes "a certificate by stocks has these keys alone: "
+    ++ codes "at_least, at_most, least, most, type, version")
+stock_certificate_hint stock_cert.Version =
+    Some (codes "the version of a certificate by stocks is 3")
+stock_certificate_hint stock_cert.Range =
+    Some (codes "a number is too great for a certificate, or the type has no right name")
+stock_certificate_hint stock_cert.OutOfMemory = None
 
 -- the same of a certificate of a number without reads
 abbrev pub unread_certificate_hint : UnreadCertFault → Option (List ℕ)
@@ -151,6 +170,30 @@ check_hint (check.NotNext entry) =
 check_hint (check.NotACollision entry) =
     codes "this entry, from 0, has no two runs that its process cannot tell apart"
 check_hint check.TooFew = codes "some choice for one process more is not refuted"
+
+-- why the check refuses a certificate by stocks
+abbrev pub stock_check_hint : StockCheckFault → Option (List ℕ)
+stock_check_hint stock_check.OtherType =
+    Some (codes "the certificate is for a type of another name")
+stock_check_hint stock_check.BadNumber =
+    Some (codes "at_least is from 1 to 16 or null, and at_most from it to 16 or null")
+stock_check_hint stock_check.LeastShape = Some (codes
+    "least is null for 1, a witness for another number, and lasting sets for every number")
+stock_check_hint stock_check.NotAChoice =
+    Some (codes "the witness is no choice of the table for as many processes as at_least")
+stock_check_hint stock_check.NoWitness =
+    Some (codes "in the witness some process cannot always tell which team was first")
+stock_check_hint stock_check.NotLasting =
+    Some (codes "the sets of states do not show that the two operations last")
+stock_check_hint stock_check.MostShape =
+    Some (codes "most has joins exactly if at_most is a number")
+stock_check_hint (stock_check.NotAJoin place) =
+    Some (codes "this join, from 0, has no two words that show one operation the same")
+stock_check_hint (stock_check.NoticesItself operation) =
+    Some (codes "two processes with this operation, from 0, can tell who was first")
+stock_check_hint (stock_check.NotConnected state) =
+    Some (codes "from this state, from 0, the joins leave two teams to some stock")
+stock_check_hint stock_check.OutOfMemory = None
 
 -- why the check refuses a certificate of a number without reads
 abbrev pub unread_check_hint : UnreadCheckFault → Option (List ℕ)
@@ -219,9 +262,11 @@ hint_of (fault.Table f) known = table_hint f (option_map (λ s. s.now) known.tab
     (option_map string_bytes known.reason)
 hint_of (fault.Object f) known = table_hint f (option_map (λ s. s.now) known.object) false None
 hint_of (fault.Certificate f) known = certificate_hint f
+hint_of (fault.StockCertificate f) known = stock_certificate_hint f
 hint_of (fault.UnreadCertificate f) known = unread_certificate_hint f
 hint_of (fault.TooLong s) known = Some (size_hint s)
 hint_of (fault.Check f) known = Some (check_hint f)
+hint_of (fault.StockCheck f) known = stock_check_hint f
 hint_of (fault.UnreadCheck f) known = unread_check_hint f
 hint_of (fault.TreeCertificate f) known = tree_certificate_hint f
 hint_of (fault.TreeCheck f) known = tree_check_hint f

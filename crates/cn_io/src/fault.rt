@@ -9,6 +9,8 @@ use cn_check::CheckFault;
 use cn_log::ReplayFault;
 use cn_search::FindFault;
 use cn_service::ServeFault;
+use cn_stock_cert::StockCertFault;
+use cn_stock_check::StockCheckFault;
 use cn_table::TableFault;
 use cn_tree_cert::TreeCertFault;
 use cn_tree_check::TreeCheckFault;
@@ -63,6 +65,8 @@ pub enum AppFault {
     Object(TableFault),
     /// The text of the certificate was refused.
     Certificate(CertFault),
+    /// The text of a certificate by stocks was refused.
+    StockCertificate(StockCertFault),
     /// The text of a certificate of a number without reads was refused.
     UnreadCertificate(UnreadCertFault),
     /// The text of a certificate of a plan tree was refused.
@@ -71,6 +75,8 @@ pub enum AppFault {
     TooLong(Source),
     /// The check refused the certificate.
     Check(CheckFault),
+    /// The check refused the certificate by stocks.
+    StockCheck(StockCheckFault),
     /// The check refused the certificate of a number without reads, or came to no end.
     UnreadCheck(UnreadCheckFault),
     /// The check refused the certificate of a plan tree.
@@ -178,6 +184,8 @@ impl AppFault {
             AppFault::Table(TableFault::OutOfMemory)
             | AppFault::Object(TableFault::OutOfMemory)
             | AppFault::Certificate(CertFault::OutOfMemory)
+            | AppFault::StockCertificate(StockCertFault::OutOfMemory)
+            | AppFault::StockCheck(StockCheckFault::OutOfMemory)
             | AppFault::UnreadCertificate(UnreadCertFault::OutOfMemory)
             | AppFault::UnreadCheck(UnreadCheckFault::OutOfMemory)
             | AppFault::TreeCertificate(TreeCertFault::OutOfMemory)
@@ -201,10 +209,10 @@ impl AppFault {
             AppFault::Table(_) => "table: ",
             AppFault::Object(_) => "object: ",
             AppFault::Certificate(_) | AppFault::UnreadCertificate(_) => "certificate: ",
-            AppFault::TreeCertificate(_) => "certificate: ",
+            AppFault::TreeCertificate(_) | AppFault::StockCertificate(_) => "certificate: ",
             AppFault::TooLong(source) => source.name(),
             AppFault::Check(_) | AppFault::UnreadCheck(_) => "check: ",
-            AppFault::TreeCheck(_) => "check: ",
+            AppFault::TreeCheck(_) | AppFault::StockCheck(_) => "check: ",
             AppFault::NoWitness => "certificate: no witness",
             AppFault::NoRecordingWitness => "table: no recording witness",
             AppFault::NoPlanTree => "table: no plan tree",
@@ -245,10 +253,11 @@ impl AppFault {
     {
         match self.plain() {
             AppFault::Check(_) | AppFault::UnreadCheck(_) | AppFault::NoWitness => 1,
-            AppFault::TreeCheck(_) | AppFault::NoRecordingWitness | AppFault::NoPlanTree => 1,
+            AppFault::TreeCheck(_) | AppFault::StockCheck(_) => 1,
+            AppFault::NoRecordingWitness | AppFault::NoPlanTree => 1,
             AppFault::Table(_) | AppFault::Object(_) => 2,
             AppFault::Certificate(_) | AppFault::UnreadCertificate(_) => 2,
-            AppFault::TreeCertificate(_) => 2,
+            AppFault::TreeCertificate(_) | AppFault::StockCertificate(_) => 2,
             AppFault::TooLong(_) => 2,
             AppFault::Words | AppFault::Argument(_) => 3,
             AppFault::Find(_) | AppFault::Schedule(_) | AppFault::Replay(_) => 3,
@@ -278,6 +287,8 @@ impl fmt::Display for AppFault {
             AppFault::UnreadCertificate(fault) => write!(f, "{head}{fault}{tail}"),
             AppFault::Check(fault) => write!(f, "{head}{fault}{tail}"),
             AppFault::UnreadCheck(fault) => write!(f, "{head}{fault}{tail}"),
+            AppFault::StockCertificate(fault) => write!(f, "{head}{fault}{tail}"),
+            AppFault::StockCheck(fault) => write!(f, "{head}{fault}{tail}"),
             AppFault::TreeCertificate(fault) => write!(f, "{head}{fault}{tail}"),
             AppFault::TreeCheck(fault) => write!(f, "{head}{fault}{tail}"),
             AppFault::Find(fault) => write!(f, "{head}{fault}{tail}"),
@@ -382,6 +393,28 @@ impl From<TreeCheckFault> for AppFault {
 
     fn from(fault: TreeCheckFault) -> AppFault {
         AppFault::TreeCheck(fault).plain()
+    }
+}
+
+impl From<StockCertFault> for AppFault {
+    ghost use Rattle.cn_io.specs.FaultText.{plain_of};
+    ghost use Rattle.cn_io.specs.declared.fault.AppFault.TheVariants.{StockCertificate};
+
+    ghost from_gives = { λ fault e. e ≡ plain_of (StockCertificate fault) };
+
+    fn from(fault: StockCertFault) -> AppFault {
+        AppFault::StockCertificate(fault).plain()
+    }
+}
+
+impl From<StockCheckFault> for AppFault {
+    ghost use Rattle.cn_io.specs.FaultText.{plain_of};
+    ghost use Rattle.cn_io.specs.declared.fault.AppFault.TheVariants.{StockCheck};
+
+    ghost from_gives = { λ fault e. e ≡ plain_of (StockCheck fault) };
+
+    fn from(fault: StockCheckFault) -> AppFault {
+        AppFault::StockCheck(fault).plain()
     }
 }
 

@@ -1,6 +1,6 @@
 //! What to do about a fault, for a person who reads it.
 ghost use Rattle.std.specs.Prelude.{◌≡◌, Some, option_map};
-ghost use Rattle.cn_io.specs.Hints.{argument_hint, certificate_hint, check_hint, find_hint, hint_of, hint_text, lint_hint, plan_hint, replay_hint, schedule_hint, size_hint, table_hint, tree_certificate_hint, tree_check_hint, unread_certificate_hint, unread_check_hint};
+ghost use Rattle.cn_io.specs.Hints.{argument_hint, certificate_hint, check_hint, find_hint, hint_of, hint_text, lint_hint, plan_hint, replay_hint, schedule_hint, size_hint, stock_certificate_hint, stock_check_hint, table_hint, tree_certificate_hint, tree_check_hint, unread_certificate_hint, unread_check_hint};
 
 use crate::fault::{AppFault, Argument, Source};
 use crate::known::Known;
@@ -9,6 +9,8 @@ use cn_cert::CertFault;
 use cn_check::CheckFault;
 use cn_log::ReplayFault;
 use cn_search::FindFault;
+use cn_stock_cert::StockCertFault;
+use cn_stock_check::StockCheckFault;
 use cn_table::TableFault;
 use cn_tree_cert::TreeCertFault;
 use cn_tree_check::TreeCheckFault;
@@ -44,7 +46,10 @@ impl<'a> fmt::Display for Hint<'a> {
                 f.write_str("cnum lint tells each mistake of the table and its place")
             }
             Hint::NotToml(reason) => f.write_str(reason),
-            Hint::GreatestLimit(limit) => write!(f, "the greatest limit for this table is {limit}"),
+            Hint::GreatestLimit(limit) => write!(
+                f,
+                "the greatest limit for this table is {limit}; find --stocks takes every limit"
+            ),
             Hint::Processes(count) => write!(
                 f,
                 "the protocol has {count} processes: INPUTS has a number for each, and SCHEDULE names them from 0 on"
@@ -123,13 +128,31 @@ fn certificate_hint(fault: CertFault) -> Option<Hint<'static>>
         CertFault::NotJson => "a certificate is one JSON object, as find writes it",
         CertFault::WrongShape => {
             "a certificate has these keys alone: collisions, limit, number, type, version, witness; \
-             check --without-read is for one of find --without-read, \
+             check --stocks is for one of find --stocks, \
+             check --without-read for one of find --without-read, \
              check --shortest for one of find --shortest"
         }
         CertFault::Version => "the version of a certificate is 1 or 2",
         CertFault::Range =>
             "a number or a list is too great for a certificate, or the type has no right name",
         CertFault::OutOfMemory => return None,
+    }))
+}
+
+fn stock_certificate_hint(fault: StockCertFault) -> Option<Hint<'static>>
+    ensures { option_map hint_text result ≡ stock_certificate_hint fault }
+{
+    Some(Hint::Says(match fault {
+        StockCertFault::NotJson => "a certificate is one JSON object, as find --stocks writes it",
+        StockCertFault::WrongShape => {
+            "a certificate by stocks has these keys alone: \
+             at_least, at_most, least, most, type, version"
+        }
+        StockCertFault::Version => "the version of a certificate by stocks is 3",
+        StockCertFault::Range => {
+            "a number is too great for a certificate, or the type has no right name"
+        }
+        StockCertFault::OutOfMemory => return None,
     }))
 }
 
@@ -149,6 +172,41 @@ fn unread_certificate_hint(fault: UnreadCertFault) -> Option<Hint<'static>>
             "a number or a list is too great for a certificate, or the type has no right name"
         }
         UnreadCertFault::OutOfMemory => return None,
+    }))
+}
+
+// Why the check refuses a certificate by stocks.
+fn stock_check_hint(fault: StockCheckFault) -> Option<Hint<'static>>
+    ensures { option_map hint_text result ≡ stock_check_hint fault }
+{
+    Some(Hint::Says(match fault {
+        StockCheckFault::OtherType => "the certificate is for a type of another name",
+        StockCheckFault::BadNumber => {
+            "at_least is from 1 to 16 or null, and at_most from it to 16 or null"
+        }
+        StockCheckFault::LeastShape => {
+            "least is null for 1, a witness for another number, and lasting sets for every number"
+        }
+        StockCheckFault::NotAChoice => {
+            "the witness is no choice of the table for as many processes as at_least"
+        }
+        StockCheckFault::NoWitness => {
+            "in the witness some process cannot always tell which team was first"
+        }
+        StockCheckFault::NotLasting => {
+            "the sets of states do not show that the two operations last"
+        }
+        StockCheckFault::MostShape => "most has joins exactly if at_most is a number",
+        StockCheckFault::NotAJoin(_) => {
+            "this join, from 0, has no two words that show one operation the same"
+        }
+        StockCheckFault::NoticesItself(_) => {
+            "two processes with this operation, from 0, can tell who was first"
+        }
+        StockCheckFault::NotConnected(_) => {
+            "from this state, from 0, the joins leave two teams to some stock"
+        }
+        StockCheckFault::OutOfMemory => return None,
     }))
 }
 
@@ -297,9 +355,11 @@ impl AppFault {
             },
             AppFault::Object(fault) => table_hint(*fault, known.object, false, None),
             AppFault::Certificate(fault) => certificate_hint(*fault),
+            AppFault::StockCertificate(fault) => stock_certificate_hint(*fault),
             AppFault::UnreadCertificate(fault) => unread_certificate_hint(*fault),
             AppFault::TooLong(source) => Some(Hint::Says(size_hint(source))),
             AppFault::Check(fault) => Some(Hint::Says(check_hint(fault))),
+            AppFault::StockCheck(fault) => stock_check_hint(*fault),
             AppFault::UnreadCheck(fault) => unread_check_hint(*fault),
             AppFault::TreeCertificate(fault) => tree_certificate_hint(*fault),
             AppFault::TreeCheck(fault) => tree_check_hint(*fault),

@@ -19,4 +19,5 @@ pub mod UnreadWitness
 pub mod Unread
 pub mod TreeCourses
 pub mod TreePlans
+pub mod StockVerdict
 pub mod TreeVerdict

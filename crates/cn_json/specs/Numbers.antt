@@ -2,19 +2,13 @@
 use Rattle.std.specs.Prelude.{ℕ, Option, Some, None, codes, nat_lt, if◌then◌else◌}
 use Rattle.serde_json.specs.Data.{Data, Members, object, member, no_members}
 use Rattle.cn_search.specs.declared.exact.ConsensusNumber.{ConsensusNumber}
-use Rattle.cn_search.specs.declared.exact.ConsensusNumber.TheVariants.{Finite, Infinite, Between}
+use Rattle.cn_search.specs.declared.exact.ConsensusNumber.TheVariants.{Finite, Infinite}
 use Rattle.cn_json.specs.Values.{number_data, text_data}
 use Rattle.cn_reasons.specs.declared.numbers.TypeNumber.{TypeNumber}
 use Rattle.cn_reasons.specs.declared.numbers.TypeNumber.TheVariants.{Exact, UpTo}
 use Rattle.cn_unread_number.specs.declared.bounds.NumberBounds.{NumberBounds}
 use Rattle.cn_unread_number.specs.declared.bounds.NumberBounds.TheVariants as bounds
 use Rattle.cn_json.specs.declared.numbers.Classification.{Classification}
-
--- the ends of a range
-abbrev pub range_data : ℕ → ℕ → Data
-range_data least most =
-    object (member (codes "from") (number_data least)
-    (member (codes "to") (number_data most) no_members))
 
 abbrev pub at_least_data : ℕ → Data
 at_least_data n = object (member (codes "at_least") (number_data n) no_members)
@@ -23,7 +17,6 @@ at_least_data n = object (member (codes "at_least") (number_data n) no_members)
 abbrev pub exact_data : ConsensusNumber → Data
 exact_data (Finite n) = number_data n
 exact_data Infinite = text_data (codes "infinite")
-exact_data (Between least most) = range_data least most
 
 -- a number up to a limit: 1 where there is none, and at least the limit where it is the limit
 abbrev pub limited_data : ℕ → Option ℕ → Data

@@ -24,17 +24,13 @@ pub struct Classification<'a> {
     pub without_read: Option<NumberBounds>,
 }
 
-/// Writes a number with no limit: the number; `"infinite"`; or `{"from":N,"to":M}`.
+/// Writes a number with no limit: the number, or `"infinite"`.
 pub(crate) fn write_exact(out: &mut JsonText, number: ConsensusNumber) -> Result<(), AllocError>
     ensures { Appends result out.old out.new (value_tokens (exact_data number)) }
 {
     match number {
         ConsensusNumber::Finite(n) => out.number(u64::from(n)),
         ConsensusNumber::Infinite => out.text("infinite"),
-        ConsensusNumber::Between(least, most) => out.object(&[
-            ("from", Byte(least)),
-            ("to", Byte(most)),
-        ]),
     }
 }
 
@@ -128,7 +124,6 @@ fn write_classification(
 ///
 /// - `N`: it is this number, with no limit and up to any limit above it;
 /// - `"infinite"`, with no limit;
-/// - `{"from":N,"to":M}`: with no limit, it is one of these;
 /// - `{"at_least":N}`: it is at least the limit N.
 ///
 /// A number without reads is `N`, `"infinite"`, `{"at_least":N,"at_most":M}` or `{"at_least":N}`.

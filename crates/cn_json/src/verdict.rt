@@ -10,7 +10,11 @@ use cn_cert::CertFault;
 use cn_check::CheckFault;
 use std::alloc::{AllocError, Global};
 
-fn write_named_fault(out: &mut JsonText, name: &str, number: u8) -> Result<(), AllocError>
+pub(crate) fn write_named_fault(
+    out: &mut JsonText,
+    name: &str,
+    number: u8,
+) -> Result<(), AllocError>
     ensures { Appends result out.old out.new (value_tokens (named_fault name.now number)) }
 {
     out.object(&[("name", Text(name)), ("number", Byte(number))])

@@ -5,7 +5,7 @@ use Rattle.cn_table.specs.TypeTable.{TypeTable}
 use Rattle.cn_interference.specs.Rules.{most_by}
 use Rattle.cn_interference.specs.declared.rules.Rule.{Rule}
 use Rattle.cn_interference.specs.declared.rules.Rule.TheVariants.{InterferenceWithoutAnswers, HiddenOperations, TwoStates, Interference}
-use Rattle.cn_search.specs.declared.exact.ConsensusNumber.TheVariants.{Finite, Infinite, Between}
+use Rattle.cn_search.specs.declared.exact.ConsensusNumber.TheVariants.{Finite, Infinite}
 use Rattle.cn_reasons.specs.declared.explanation.Explanation.{Explanation}
 use Rattle.cn_reasons.specs.declared.lasting.LastingWitness.{LastingWitness}
 use Rattle.cn_reasons.specs.declared.numbers.TypeNumber.{TypeNumber}
@@ -66,14 +66,12 @@ no_list_line n = decimal n ++ (codes " processes: the choices are not listed her
 abbrev pub not_refuted : TypeNumber → ℕ → List ℕ
 not_refuted (Exact (Finite n)) limit = no_list_line (n + 1)
 not_refuted (Exact Infinite) limit = []
-not_refuted (Exact (Between least most)) limit = no_list_line (most + 1)
 not_refuted (UpTo most number) limit = limit_line limit
 
 -- the refutation, where the number is the one that it bounds
 abbrev pub refuted : TypeNumber → ℕ → Refutation Way → List ℕ
 refuted (Exact (Finite n)) limit r = choices_line (codes "a process cannot tell") r.processes r.count
 refuted (Exact Infinite) limit r = []
-refuted (Exact (Between least most)) limit r = no_list_line (most + 1)
 refuted (UpTo most number) limit r =
     choices_line (codes "a process cannot tell") r.processes r.count
 

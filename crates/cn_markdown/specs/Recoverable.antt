@@ -7,7 +7,7 @@ use Rattle.cn_table.specs.declared.elements.State.{State}
 use Rattle.cn_choice.specs.TeamNames.{team_name}
 use Rattle.cn_search.specs.NumberText.{number_text}
 use Rattle.cn_search.specs.declared.exact.ConsensusNumber.{ConsensusNumber}
-use Rattle.cn_search.specs.declared.exact.ConsensusNumber.TheVariants.{Finite, Infinite, Between}
+use Rattle.cn_search.specs.declared.exact.ConsensusNumber.TheVariants.{Finite, Infinite}
 use Rattle.cn_reasons.specs.declared.group.Group.{Group}
 use Rattle.cn_reasons.specs.declared.reasons.RecoverableWay.{RecoverableWay}
 use Rattle.cn_reasons.specs.declared.recording.Reader.{Reader}
@@ -61,7 +61,6 @@ each_number_line = codes "It is so for each number of processes.\n"
 abbrev pub not_refuted : ConsensusNumber → List ℕ
 not_refuted Infinite = each_number_line
 not_refuted (Finite n) = no_list_line (n + 1)
-not_refuted (Between least most) = no_list_line (most + 1)
 
 abbrev pub no_more : ConsensusNumber → Option (Refutation RecoverableWay) → List ℕ
 no_more number None = not_refuted number

@@ -132,9 +132,6 @@ fn push_not_refuted(text: &mut String, number: TypeNumber, limit: u8) -> Result<
     match number {
         TypeNumber::Exact(ConsensusNumber::Finite(n)) => push_no_list_line(text, n as u16 + 1),
         TypeNumber::Exact(ConsensusNumber::Infinite) => Ok(()),
-        TypeNumber::Exact(ConsensusNumber::Between(_, most)) => {
-            push_no_list_line(text, most as u16 + 1)
-        }
         TypeNumber::UpTo(_, _) => push_limit_line(text, limit),
     }
 }
@@ -152,9 +149,6 @@ fn push_refuted(
     let (n, count) = (refutation.processes, refutation.count);
     match number {
         TypeNumber::Exact(ConsensusNumber::Infinite) => Ok(()),
-        TypeNumber::Exact(ConsensusNumber::Between(_, most)) => {
-            push_no_list_line(text, most as u16 + 1)
-        }
         TypeNumber::Exact(ConsensusNumber::Finite(_)) | TypeNumber::UpTo(_, _) => {
             push_choices_line(text, "a process cannot tell", n, count)
         }

@@ -127,7 +127,6 @@ fn push_not_refuted(text: &mut String, number: ConsensusNumber) -> Result<(), Al
     match number {
         ConsensusNumber::Infinite => text.push_str(each_number_line()),
         ConsensusNumber::Finite(n) => push_no_list_line(text, n as u16 + 1),
-        ConsensusNumber::Between(_, most) => push_no_list_line(text, most as u16 + 1),
     }
 }
 

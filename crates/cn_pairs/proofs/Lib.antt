@@ -1,7 +1,5 @@
 pub mod SetLists
 pub mod FirstSets
-pub mod ExactNumbers
+pub mod OneNumber
 pub mod WholeSets
 pub mod MoreOperations
-pub mod LesserNumbers
-pub mod RangedSets

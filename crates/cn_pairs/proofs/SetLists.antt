@@ -45,7 +45,7 @@ first_or_not front from end (suc k) some l =
 -- ---- each sublist is a set of operations
 
 -- an element of a sublist is one of the list, and an ascending list has ascending sublists
-pub sub_in : (k : ℕ) (xs set : List ℕ) → IsIn set (sublists k xs) → (x : ℕ) → IsIn x set → IsIn x xs
+sub_in : (k : ℕ) (xs set : List ℕ) → IsIn set (sublists k xs) → (x : ℕ) → IsIn x set → IsIn x xs
 sub_in zero xs set h x i = elim h [ inl e ↦ absurd (subst (λ (l : List ℕ). IsIn x l) (sym e) i) | inr n ↦ absurd n ]
 sub_in (suc k) [] set h x i = absurd h
 sub_in (suc k) (y ∷ ys) set h x i = elim (IsIn-append_cases set (map (λ (rest : List ℕ). y ∷ rest) (sublists k ys)) (sublists (suc k) ys) h) [
@@ -67,7 +67,7 @@ sub_ascends (suc k) (y ∷ ys) set p h = elim (IsIn-append_cases set (map (λ (r
     above y [] a z i = absurd i
     above y (x ∷ xs) a z i = elim i [ inl e ↦ subst (λ (w : ℕ). y < w) e a.0 | inr j ↦ above y xs a.1 z j ]
 
-pub sub_long : (k : ℕ) (xs set : List ℕ) → IsIn set (sublists k xs) → length set ≡ k
+sub_long : (k : ℕ) (xs set : List ℕ) → IsIn set (sublists k xs) → length set ≡ k
 sub_long zero xs set h = elim h [ inl e ↦ ap length (sym e) | inr n ↦ absurd n ]
 sub_long (suc k) [] set h = absurd h
 sub_long (suc k) (y ∷ ys) set h = elim (IsIn-append_cases set (map (λ (rest : List ℕ). y ∷ rest) (sublists k ys)) (sublists (suc k) ys) h) [

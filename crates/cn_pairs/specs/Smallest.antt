@@ -1,24 +1,18 @@
 -- The smallest sets of operations of a type that have a number.
-use Rattle.std.specs.Prelude.{◌≡◌, ℕ, ◌<◌, ◌≤◌, ◌==◌, ◌&&◌, Bool, true, false, List, map, take, All, Contains}
+use Rattle.std.specs.Prelude.{◌≡◌, ℕ, ◌<◌, ◌≤◌, ◌==◌, Bool, true, false, List, map, take, All, Contains}
 use Rattle.std.specs.List.{filter}
 use Rattle.cn_table.specs.TypeTable.{TypeTable}
 use Rattle.cn_search.specs.declared.exact.ConsensusNumber.{ConsensusNumber}
-use Rattle.cn_search.specs.declared.exact.ConsensusNumber.TheVariants.{Finite, Infinite, Between}
+use Rattle.cn_search.specs.declared.exact.ConsensusNumber.TheVariants.{Finite, Infinite}
 use Rattle.cn_pairs.specs.SetNumbers.{AreSetNumbers, set_of}
 use Rattle.cn_pairs.specs.declared.restricted.SetNumber.{SetNumber}
 use Rattle.cn_pairs.specs.declared.smallest.TheConstants.{MOST_SETS}
 
--- the same number, or the same range of numbers
+-- the same number
 abbrev pub same_number : ConsensusNumber → ConsensusNumber → Bool
 same_number (Finite m) (Finite n) = m == n
 same_number Infinite Infinite = true
-same_number (Between least most) (Between low high) = (least == low) && (most == high)
 same_number a b = false
-
--- a number, or infinite, and no range of numbers
-abbrev pub IsExact : ConsensusNumber → Type 0
-IsExact (Between least most) = ⊥
-IsExact number = Unit {0}
 
 -- each of these operations is one of the larger set
 abbrev pub IsWithin : List ℕ → List ℕ → Type 0

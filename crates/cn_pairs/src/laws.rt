@@ -7,23 +7,20 @@ ghost use Rattle.cn_table.specs.TypeTable.{TypeTable};
 ghost use Rattle.cn_choice.specs.Discerning.{IsDiscerning};
 ghost use Rattle.cn_search.specs.Numbers.{HasNumber};
 ghost use Rattle.cn_search.specs.declared.exact.ConsensusNumber.{ConsensusNumber};
-ghost use Rattle.cn_search.specs.declared.exact.ConsensusNumber.TheVariants.{Between};
-ghost use Rattle.cn_pairs.specs.Smallest.{IsExact, IsWithin, NoneHas, same_number};
+ghost use Rattle.cn_pairs.specs.Smallest.{IsWithin, NoneHas, same_number};
 
-/// A type has only one number that is no range.
+/// A type has only one number.
 pub fn one_number()
-    // promise: one-exact-number (IsExact, HasNumber)
-    ensures { (t : TypeTable) (a b : ConsensusNumber) → IsExact a → IsExact b → HasNumber t a
-        → HasNumber t b → same_number a b ≡ true }
+    // promise: one-exact-number (HasNumber)
+    ensures { (t : TypeTable) (a b : ConsensusNumber) → HasNumber t a → HasNumber t b
+        → same_number a b ≡ true }
 {}
 
-/// Some set of operations is told the number of the type, the set of all of them, unless the number
-/// is told as a range too.
+/// The set of all operations has the number of the type.
 pub fn whole_type_has_its_number()
     // promise: one-exact-number (NoneHas, HasNumber)
-    ensures { (t : TypeTable) (number : ConsensusNumber) → IsExact number → HasNumber t number
-        → NoneHas t (length t.operations) number
-        → (least : ℕ) × (most : ℕ) × HasNumber t (Between least most) }
+    ensures { (t : TypeTable) (number : ConsensusNumber) → HasNumber t number
+        → ¬ NoneHas t (length t.operations) number }
 {}
 
 /// A type with more operations has no lesser number: with a larger set of operations it is

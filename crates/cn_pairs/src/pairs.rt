@@ -5,7 +5,7 @@ ghost use Rattle.cn_pairs.specs.SetNumbers.{AreSetNumbers, set_lists};
 ghost use Rattle.cn_pairs.specs.Smallest.{AreSmallest, NoneHas};
 
 use crate::restricted::{SetNumber, set_numbers};
-use crate::smallest::smallest_with;
+use crate::smallest::smallest_after_pairs;
 use cn_search::{ConsensusNumber, consensus_number};
 use cn_table::{Operation, Table};
 use std::alloc::{AllocError, Global};
@@ -22,7 +22,8 @@ pub struct Pairs {
     /// Each pair of operations.
     pub pairs: Vec<SetNumber>,
     /// The smallest sets of operations with the number of the type, at most
-    /// [`MOST_SETS`](crate::MOST_SETS) of them. There may be none if a number is told as a range.
+    /// [`MOST_SETS`](crate::MOST_SETS) of them. There is one at least, since the set of all
+    /// operations has it ([`whole_type_has_its_number`](crate::laws::whole_type_has_its_number)).
     pub smallest: Vec<Vec<Operation>>,
 }
 
@@ -53,7 +54,14 @@ pub fn pairs_of<T: Threads + Sync>(
     let number = consensus_number(rt, alloc, table)?;
     let alone = set_numbers(rt, alloc, table, 1)?;
     let pairs = set_numbers(rt, alloc, table, 2)?;
-    let smallest = smallest_with(rt, alloc, table, number, alone.as_slice(), pairs.as_slice())?;
+    let smallest = smallest_after_pairs(
+        rt,
+        alloc,
+        table,
+        number,
+        alone.as_slice(),
+        pairs.as_slice(),
+    )?;
     Ok(Pairs {
         number,
         alone,

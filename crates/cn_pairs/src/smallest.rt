@@ -1,15 +1,12 @@
 //! The smallest sets of operations with the number of the type.
 ghost use Rattle.std.specs.Prelude.{◌≡◌, ◌≢◌, ◌≤◌, ◌<◌, ◌+◌, [], ℕ, IfOk, length, map, take};
 ghost use Rattle.std.specs.List.{filter};
-ghost use Rattle.cn_search.specs.Numbers.{HasNumber};
 ghost use Rattle.cn_search.specs.declared.exact.ConsensusNumber.{ConsensusNumber};
-ghost use Rattle.cn_search.specs.declared.exact.ConsensusNumber.TheVariants.{Between};
 ghost use Rattle.cn_pairs.specs.SetNumbers.{AreSetNumbers, set_lists, set_of};
 ghost use Rattle.cn_pairs.specs.Smallest.{AreSmallest, NoneHas, same_number};
 ghost use Rattle.cn_pairs.specs.declared.smallest.TheConstants.{MOST_SETS};
 
 use crate::restricted::{SetNumber, set_numbers};
-use crate::sets::sets_of_size;
 use cn_search::ConsensusNumber;
 use cn_table::{Operation, Table};
 use std::alloc::{AllocError, Global};
@@ -18,16 +15,13 @@ use std::thread::Threads;
 /// The most sets that are listed.
 pub const MOST_SETS: usize = 12;
 
-/// Whether the two are the same number, or the same range of numbers.
+/// Whether the two are the same number.
 fn is_same(a: ConsensusNumber, b: ConsensusNumber) -> bool
     ensures { result ≡ same_number a b }
 {
     match (a, b) {
         (ConsensusNumber::Finite(m), ConsensusNumber::Finite(n)) => m == n,
         (ConsensusNumber::Infinite, ConsensusNumber::Infinite) => true,
-        (ConsensusNumber::Between(least, most), ConsensusNumber::Between(low, high)) => {
-            least == low && most == high
-        }
         _ => false,
     }
 }
@@ -77,7 +71,7 @@ fn larger_sets<T: Threads + Sync>(
 /// The smallest sets of operations that have this number, from the numbers of each operation alone
 /// and of each pair: sets of one size, in lexicographic order of their ascending lists, and at most
 /// [`MOST_SETS`] of them. There is none if no set of operations has the number.
-fn smallest_after_pairs<T: Threads + Sync>(
+pub(crate) fn smallest_after_pairs<T: Threads + Sync>(
     rt: &T,
     alloc: Global,
     table: &Table,
@@ -103,49 +97,4 @@ fn smallest_after_pairs<T: Threads + Sync>(
         return Ok(of_two);
     }
     larger_sets(rt, alloc, table, number)
-}
-
-/// The set of all operations, alone in a list: the smallest set with a range that is told for the
-/// type. Each smaller set has a number that is no range.
-fn whole_set(
-    alloc: Global,
-    table: &Table,
-    least: u8,
-    most: u8,
-) -> Result<Vec<Vec<Operation>>, AllocError>
-    requires { HasNumber table.now (Between least most) }
-    ensures found { IfOk result (λ sets. sets.items ≢ []
-        → AreSmallest table.now (Between least most) (set_lists sets)) }
-    ensures none { IfOk result (λ sets. sets.items ≡ [] → (size : ℕ) → 1 ≤ size
-        → size ≤ length table.now.operations → NoneHas table.now size (Between least most)) }
-{
-    let whole = sets_of_size(alloc, table, table.operations())?;
-    Ok(whole)
-}
-
-/// The smallest sets of operations with the number of the type, from this number, those of each
-/// operation alone, and those of each pair.
-///
-/// Where the number is told as a range, this is the set of all operations. A range begins with a
-/// greater number the fewer operations there are, so no smaller set is told the same one.
-pub(crate) fn smallest_with<T: Threads + Sync>(
-    rt: &T,
-    alloc: Global,
-    table: &Table,
-    number: ConsensusNumber,
-    alone: &[SetNumber],
-    pairs: &[SetNumber],
-) -> Result<Vec<Vec<Operation>>, AllocError>
-    requires number { HasNumber table.now number }
-    requires alone { AreSetNumbers table.now 1 alone.now }
-    requires pairs { AreSetNumbers table.now 2 pairs.now }
-    ensures found { IfOk result (λ sets. sets.items ≢ []
-        → AreSmallest table.now number (set_lists sets)) }
-    ensures none { IfOk result (λ sets. sets.items ≡ [] → (size : ℕ) → 1 ≤ size
-        → size ≤ length table.now.operations → NoneHas table.now size number) }
-{
-    match number {
-        ConsensusNumber::Between(least, most) => whole_set(alloc, table, least, most),
-        _ => smallest_after_pairs(rt, alloc, table, number, alone, pairs),
-    }
 }

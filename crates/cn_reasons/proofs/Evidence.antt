@@ -14,9 +14,9 @@ use Rattle.cn_finding.specs.Evidence.{IsFirst, NoneIs}
 use Rattle.cn_search.specs.Faults.{count_fault, find_fault}
 use Rattle.cn_search.specs.declared.fault.FindFault.TheVariants.{BadLimit}
 use Rattle.cn_search.specs.declared.exact.ConsensusNumber.{ConsensusNumber}
-use Rattle.cn_search.specs.declared.exact.ConsensusNumber.TheVariants.{Finite, Infinite, Between}
+use Rattle.cn_search.specs.declared.exact.ConsensusNumber.TheVariants.{Finite, Infinite}
 use Rattle.cn_check.proofs.WitnessLemmas.{fits_for}
-use Rattle.cn_recover.specs.Recording.{HasRecoverableNumber, IsExact, IsRecording, IsRecordingWitness}
+use Rattle.cn_recover.specs.Recording.{HasRecoverableNumber, IsRecording, IsRecordingWitness}
 use Rattle.cn_reasons.specs.AllOrders.{AreAllOrders}
 use Rattle.cn_reasons.specs.Recoverable.{witness_size}
 
@@ -62,8 +62,7 @@ module _ (t : TypeTable) where
       fails (shown (slice_index_or (live_choices t n) i d) (i, less, get_or_default (live_choices t n) i (slice_index_or (live_choices t n) i d) d less) is)
 
 -- the type is recording for as many processes as the witness has
-pub recording_at : (t : TypeTable) → PassesDown (IsRecording t) → (limit : ℕ) (number : ConsensusNumber) → 2 ≤ limit → HasRecoverableNumber t number → IsExact number
+pub recording_at : (t : TypeTable) → PassesDown (IsRecording t) → (limit : ℕ) (number : ConsensusNumber) → 2 ≤ limit → HasRecoverableNumber t number
     → 2 ≤ witness_size limit number → IsRecording t (witness_size limit number)
-recording_at t below limit (Finite n) some has exact two = at_less (IsRecording t) below n (min n limit) two (omega arith) (has.2 (omega (arith, two)))
-recording_at t below limit Infinite some has exact two = has limit some
-recording_at t below limit (Between least most) some has exact two = absurd exact
+recording_at t below limit (Finite n) some has two = at_less (IsRecording t) below n (min n limit) two (omega arith) (has.2 (omega (arith, two)))
+recording_at t below limit Infinite some has two = has limit some

@@ -11,8 +11,8 @@ use Rattle.cn_outcomes.specs.LeftStates.{LeavesIn}
 use Rattle.cn_finding.specs.Evidence.{IsFirst}
 use Rattle.cn_search.specs.GreatestLimit.{IsGreatestLimit}
 use Rattle.cn_search.specs.declared.exact.ConsensusNumber.{ConsensusNumber}
-use Rattle.cn_search.specs.declared.exact.ConsensusNumber.TheVariants.{Finite, Infinite, Between}
-use Rattle.cn_recover.specs.Recording.{HasRecoverableNumber, IsExact, IsRecordingWitness}
+use Rattle.cn_search.specs.declared.exact.ConsensusNumber.TheVariants.{Finite, Infinite}
+use Rattle.cn_recover.specs.Recording.{HasRecoverableNumber, IsRecordingWitness}
 use Rattle.cn_reasons.specs.Groups.{choice_groups}
 use Rattle.cn_reasons.specs.Known.{IsKnownRecording, IsKnownRecoverableWay, IsKnownRefutation}
 use Rattle.cn_reasons.specs.NotRecording.{IsReason}
@@ -61,7 +61,6 @@ IsEvidence t n witness = MatchOption witness (n ≡ 1) (IsFirstRecording t n)
 abbrev pub witness_size : ℕ → ConsensusNumber → ℕ
 witness_size limit (Finite n) = min n limit
 witness_size limit Infinite = limit
-witness_size limit (Between least most) = min least limit
 
 -- ---- why it is no more
 
@@ -80,7 +79,6 @@ IsNoMore t limit all (Finite n) refutation =
     MatchOption refutation (limit ≤ n) (λ r. (n < limit)
     × IsRefutationOf (IsRecoverableWayOf t) (n + 1) all (live_choices t (n + 1)) r)
 IsNoMore t limit all Infinite refutation = refutation ≡ None
-IsNoMore t limit all (Between least most) refutation = refutation ≡ None
 
 -- ---- all of it
 
@@ -97,7 +95,6 @@ pub record ExplainsRecoverable (t : TypeTable) (all : Bool) (e : RecoverableExpl
   pub is_table : e.table ≡ t
   pub is_all : e.all ≡ all
   pub number : HasRecoverableNumber t e.number
-  pub exact : IsExact e.number
   pub limit : ℕ
   pub is_limit : IsGreatestLimit (length t.states) (length t.operations) limit
   pub witness : IsEvidence t (witness_size limit e.number) e.witness

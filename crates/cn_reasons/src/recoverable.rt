@@ -22,7 +22,7 @@ use std::thread::Threads;
 pub struct RecoverableExplanation {
     /// The table of the type.
     pub table: Table,
-    /// The recoverable number. It is never told as `Between` two numbers.
+    /// The recoverable number.
     pub number: ConsensusNumber,
     /// The first recording witness for as many processes as the number, or as are searched at most,
     /// and none if the number is 1.
@@ -40,7 +40,6 @@ fn witness_size(number: ConsensusNumber, limit: u8) -> u8
     match number {
         ConsensusNumber::Finite(n) => n.min(limit),
         ConsensusNumber::Infinite => limit,
-        ConsensusNumber::Between(least, _) => least.min(limit),
     }
 }
 
@@ -82,7 +81,7 @@ fn no_more(
 {
     match number {
         ConsensusNumber::Finite(n) => no_more_than(alloc, table, n, limit, all),
-        ConsensusNumber::Infinite | ConsensusNumber::Between(_, _) => Ok(None),
+        ConsensusNumber::Infinite => Ok(None),
     }
 }
 

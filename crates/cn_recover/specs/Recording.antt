@@ -1,6 +1,6 @@
 -- Recording witnesses, of which the state alone tells for good which team moved first, and the
 -- numbers of processes for which a type has one.
-use Rattle.std.specs.Prelude.{◌≡◌, ◌≢◌, ℕ, ◌<◌, length, slice_get, Option, Some, ⊤}
+use Rattle.std.specs.Prelude.{◌≡◌, ◌≢◌, ℕ, ◌<◌, length, slice_get, Option, Some}
 use Rattle.cn_table.specs.TypeTable.{TypeTable}
 use Rattle.cn_choice.specs.declared.team.Team.{Team}
 use Rattle.cn_choice.specs.declared.team.Team.TheVariants.{A, B}
@@ -9,7 +9,6 @@ use Rattle.cn_choice.specs.GreatestNumbers.{IsGreatestUpTo}
 use Rattle.cn_outcomes.specs.LeftStates.{LeavesIn}
 use Rattle.cn_search.specs.Numbers.{IsNumberOf}
 use Rattle.cn_search.specs.declared.exact.ConsensusNumber.{ConsensusNumber}
-use Rattle.cn_search.specs.declared.exact.ConsensusNumber.TheVariants.{Between, Finite, Infinite}
 
 -- two processes are in the team
 abbrev pub HasTwo : RawChoice → Team → Type 0
@@ -37,12 +36,6 @@ IsRecoverableNumberUpTo t = IsGreatestUpTo (IsRecording t)
 -- the recoverable number with no limit
 abbrev pub HasRecoverableNumber : TypeTable → ConsensusNumber → Type 0
 HasRecoverableNumber t number = IsNumberOf (IsRecording t) (length t.states) number
-
--- the number is no range
-abbrev pub IsExact : ConsensusNumber → Type 0
-IsExact (Finite n) = ⊤
-IsExact Infinite = ⊤
-IsExact (Between least most) = ⊥
 
 -- process m of c, which is in the team, is none of those of d: process i of d is process f i of c
 pub record Misses (f : ℕ → ℕ) (d c : RawChoice) (team : Team) : Type 0 where

@@ -7,7 +7,7 @@ ghost use Rattle.cn_search.specs.Numbers.{HasNumber};
 ghost use Rattle.cn_finding.specs.declared.limits.TheConstants.{LEAST_LIMIT};
 ghost use Rattle.cn_search.specs.declared.fault.FindFault.{FindFault};
 ghost use Rattle.cn_search.specs.declared.fault.FindFault.TheVariants.{OutOfMemory};
-ghost use Rattle.cn_recover.specs.Recording.{HasRecoverableNumber, IsExact, IsRecoverableNumberUpTo};
+ghost use Rattle.cn_recover.specs.Recording.{HasRecoverableNumber, IsRecoverableNumberUpTo};
 
 use crate::laws;
 use cn_search::{
@@ -96,8 +96,7 @@ fn without_limit(table: &Table, bound: u8, found: Option<u8>) -> ConsensusNumber
     requires above { (m : ℕ) → bound < m → ¬ IsDiscerning table.now m }
     requires found { (most : ℕ) × (bound ≤ most) × ((most ≡ 2) ⊎ (most ≡ bound))
         × IsRecoverableNumberUpTo table.now most found }
-    ensures number { HasRecoverableNumber table.now result }
-    ensures exact { IsExact result }
+    ensures { HasRecoverableNumber table.now result }
 {
     let (_table, _bound) = (table, bound);
     match found {
@@ -126,8 +125,7 @@ fn number_below<T: Threads + Sync>(
 ) -> Result<ConsensusNumber, AllocError>
     requires few { (bound ≤ 2) ⊎ (bound ≤ length table.now.states) }
     requires above { (m : ℕ) → bound < m → ¬ IsDiscerning table.now m }
-    ensures number { IfOk result (HasRecoverableNumber table.now) }
-    ensures exact { IfOk result IsExact }
+    ensures { IfOk result (HasRecoverableNumber table.now) }
 {
     let found = greatest(rt, alloc, table, most_processes(table, bound))?;
     Ok(without_limit(table, bound, found))
@@ -138,7 +136,7 @@ fn number_below<T: Threads + Sync>(
 pub struct BothNumbers {
     /// The consensus number.
     pub number: ConsensusNumber,
-    /// The recoverable number. It is never told as `Between` two numbers.
+    /// The recoverable number.
     pub recoverable: ConsensusNumber,
 }
 
@@ -150,14 +148,12 @@ fn recoverable_of<T: Threads + Sync>(
     number: ConsensusNumber,
 ) -> Result<ConsensusNumber, AllocError>
     requires { HasNumber table.now number }
-    ensures number { IfOk result (HasRecoverableNumber table.now) }
-    ensures exact { IfOk result IsExact }
+    ensures { IfOk result (HasRecoverableNumber table.now) }
 {
     laws::no_greatest_together();
     match number {
         ConsensusNumber::Infinite => Ok(ConsensusNumber::Infinite),
         ConsensusNumber::Finite(n) => number_below(rt, alloc, table, n),
-        ConsensusNumber::Between(_, most) => number_below(rt, alloc, table, most),
     }
 }
 
@@ -166,7 +162,6 @@ fn recoverable_of<T: Threads + Sync>(
 ///
 /// The recoverable number is infinite exactly if the consensus number is
 /// ([`no_greatest_together`](crate::laws::no_greatest_together)), and at most the consensus number.
-/// It is never told as `Between` two numbers.
 ///
 /// # Errors
 ///
@@ -180,8 +175,6 @@ pub fn both_numbers<T: Threads + Sync>(
     ensures number { IfOk result (λ both. HasNumber table.now both.number) }
     // promise: numbers-of-both-kinds (HasRecoverableNumber: IsNumberOf)
     ensures recoverable { IfOk result (λ both. HasRecoverableNumber table.now both.recoverable) }
-    // promise: numbers-of-both-kinds (IsExact)
-    ensures exact { IfOk result (λ both. IsExact both.recoverable) }
 {
     let number = consensus_number(rt, alloc, table)?;
     let recoverable = recoverable_of(rt, alloc, table, number)?;
@@ -202,9 +195,7 @@ pub fn recoverable_consensus_number<T: Threads + Sync>(
     table: &Table,
 ) -> Result<ConsensusNumber, AllocError>
     // promise: numbers-of-both-kinds (HasRecoverableNumber: IsNumberOf)
-    ensures number { IfOk result (HasRecoverableNumber table.now) }
-    // promise: numbers-of-both-kinds
-    ensures exact { IfOk result IsExact }
+    ensures { IfOk result (HasRecoverableNumber table.now) }
 {
     let both = both_numbers(rt, alloc, table)?;
     Ok(both.recoverable)

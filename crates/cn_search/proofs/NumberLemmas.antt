@@ -1,17 +1,23 @@
 -- Numbers with no evidence, from what was tried.
-use Rattle.std.proofs.Common.{◌≡◌, inl, inr, ◌↔◌, ℕ, ◌+◌, ◌≤◌, ◌<◌, Contains, IsTrue, length, Option, Some, None, IfSome, is_some, true, arith, refl, sym, subst, true≢false}
+use Rattle.std.proofs.Common.{◌≡◌, ◌⊎◌, inl, inr, ◌↔◌, ℕ, ◌+◌, ◌≤◌, ◌<◌, Contains, IsTrue, length, Option, Some, None, IfSome, is_some, true, ap, arith, refl, sym, subst, true≢false}
 use Rattle.std.proofs.lemmas.Bool.{cases_order}
 use Rattle.cn_table.specs.TypeTable.{TypeTable}
 use Rattle.cn_choice.specs.Canonical.{Choice, raw_choice_of}
-use Rattle.cn_choice.specs.Discerning.{IsDiscerning, IsWitness}
+use Rattle.cn_choice.specs.Discerning.{IsDiscerning, IsNumberUpTo, IsWitness}
 use Rattle.cn_choice.specs.GreatestNumbers.{IsGreatestUpTo, PassesDown}
 use Rattle.cn_choice.proofs.NumberLemmas.GreatestNumbers.{greatest_at, no_greatest}
 use Rattle.cn_stocks.specs.Greatest.{NoneFrom}
+use Rattle.cn_stocks.specs.Lasting.{IsAlwaysDiscerning, Lasts}
+use Rattle.cn_stocks.specs.Leaving.{IsLasting}
+use Rattle.cn_stocks.specs.declared.lasting.search.Lasting.{Lasting}
 use Rattle.cn_stocks.specs.Splits.{SomeSplits}
+use Rattle.cn_copies.specs.Copies.{IsWithoutCopies}
 use Rattle.cn_finding.specs.Evidence.{IsFirstAmong, IsFirstWitness, NoneIsWitness}
 use Rattle.cn_search.specs.Search.{IsKnownAt}
-use Rattle.cn_search.specs.Numbers.{HasNumber}
-use Rattle.cn_search.specs.declared.exact.ConsensusNumber.TheVariants.{Finite, Between}
+use Rattle.cn_search.specs.Numbers.{HasNumber, HaveSameNumbers}
+use Rattle.cn_search.specs.declared.exact.ConsensusNumber.{ConsensusNumber}
+use Rattle.cn_search.specs.declared.exact.ConsensusNumber.TheVariants.{Finite, Infinite}
+use Rattle.cn_telling.specs.Greatest.{IsExactSplit}
 use Rattle.cn_choice.specs.Live.{live_choices}
 use Rattle.cn_search.proofs.ListLemmas.{Contains-between}
 
@@ -60,48 +66,85 @@ module _ (t : TypeTable) (n : ℕ)
   known_by_first None h some = absurd (true≢false (sym some))
   known_by_first (Some w) h some = h
 
--- a type no two of whose operations last, and stocks of up to so many operations, at least as many as it has states
-module _ (t : TypeTable) (decide : (n : ℕ) → 3 ≤ n → IsDiscerning t n ↔ SomeSplits t n) (few : (m : ℕ) → 3 ≤ m → length t.states < m → ¬ IsDiscerning t m)
-    (most : ℕ) (all : length t.states ≤ most) where
-  -- where no larger stock splits, the type is discerning for no more processes
-  none_above : (from : ℕ) → 3 ≤ from → NoneFrom t from most → (m : ℕ) → from ≤ m → ¬ IsDiscerning t m
-  none_above from three none m l d = elim (cases_order m most) [
-    | inl e ↦ none m l (omega (arith, e)) ((decide m (omega (arith, three, l))).0 d)
+-- where no larger stock than these splits, the type is discerning for no more processes
+none_by_stocks : (t : TypeTable) → ((n : ℕ) → 3 ≤ n → IsDiscerning t n ↔ SomeSplits t n) → (from most : ℕ) → 3 ≤ from → NoneFrom t from most
+    → (m : ℕ) → from ≤ m → m ≤ most → ¬ IsDiscerning t m
+none_by_stocks t decide from most three none m l u d = none m l u ((decide m (omega (arith, three, l))).0 d)
+
+-- the greatest number of operations of which some stock splits is that of processes
+pub by_size : (t : TypeTable) → ((n : ℕ) → 3 ≤ n → IsDiscerning t n ↔ SomeSplits t n) → (most n : ℕ) → IsExactSplit t most (Some n) → IsNumberUpTo t most (Some n)
+by_size t decide most n (three, within, splits, none) =
+    (omega (arith, three), within, (decide n three).1 splits, λ m l u. none_by_stocks t decide (n + 1) most (omega (arith, three)) none m (omega (arith, l)) u)
+
+-- where no stock splits, it is two, or there is none
+pub by_two : (t : TypeTable) → ((n : ℕ) → 3 ≤ n → IsDiscerning t n ↔ SomeSplits t n) → (most : ℕ) → 2 ≤ most → IsExactSplit t most None → IsDiscerning t 2
+    → IsNumberUpTo t most (Some 2)
+by_two t decide most two none d = (omega arith, two, d, λ m l u. none_by_stocks t decide 3 most (omega arith) none m (omega (arith, l)) u)
+
+pub by_none : (t : TypeTable) → ((n : ℕ) → 3 ≤ n → IsDiscerning t n ↔ SomeSplits t n) → (most : ℕ) → IsExactSplit t most None → ¬ IsDiscerning t 2
+    → IsNumberUpTo t most None
+by_none t decide most none not_two m two u = elim (cases_order m 2) [
+  | inl e ↦ subst (λ (k : ℕ). ¬ IsDiscerning t k) (sym e) not_two
+  | inr o ↦ elim o [
+    | inl less ↦ absurd (omega (arith, two, less))
+    | inr more ↦ none_by_stocks t decide 3 most (omega arith) none m (omega (arith, more)) u
+  ]
+]
+
+-- a type no two of whose operations last: the number up to at least as many processes as it has states is the number
+module _ (t : TypeTable) (few : (m : ℕ) → 3 ≤ m → length t.states < m → ¬ IsDiscerning t m) (most : ℕ) (three : 3 ≤ most) (all : length t.states ≤ most) where
+  none_above : (n : ℕ) → ((m : ℕ) → n < m → m ≤ most → ¬ IsDiscerning t m) → (m : ℕ) → n < m → ¬ IsDiscerning t m
+  none_above n none m l d = elim (cases_order m most) [
+    | inl e ↦ none m l (omega (arith, e)) d
     | inr o ↦ elim o [
-      | inl less ↦ none m l (omega (arith, less)) ((decide m (omega (arith, three, l))).0 d)
-      | inr more ↦ few m (omega (arith, three, l)) (omega (arith, all, more)) d
+      | inl less ↦ none m l (omega (arith, less)) d
+      | inr more ↦ few m (omega (arith, three, more)) (omega (arith, all, more)) d
     ]
   ]
 
-  pub of_size : (n : ℕ) → 3 ≤ n → SomeSplits t n → NoneFrom t (n + 1) most → HasNumber t (Finite n)
-  of_size n three splits none =
-      let d = (decide n three).1 splits in (
-        omega (arith, three),
-        elim (cases_order n (length t.states)) [
-          | inl e ↦ inr (omega (arith, e))
-          | inr o ↦ elim o [ inl less ↦ inr (omega (arith, less)) | inr more ↦ absurd (few n three more d) ]
-        ],
-        λ two. d,
-        λ m l. none_above (n + 1) (omega (arith, three)) none m (omega (arith, l)),
-      )
-
-  pub of_range : (n : ℕ) → 9 ≤ n → n < length t.states → SomeSplits t n → HasNumber t (Between n (length t.states))
-  of_range n nine less splits =
-      ((decide n (omega (arith, nine))).1 splits, λ m l. few m (omega (arith, nine, less, l)) l, nine, less, omega arith)
-
-  pub of_two : NoneFrom t 3 most → IsDiscerning t 2 → HasNumber t (Finite 2)
-  of_two none d = (omega arith, inl (omega arith), λ two. d, λ m l. none_above 3 (omega arith) none m (omega (arith, l)))
-
-  pub of_one : NoneFrom t 3 most → ¬ IsDiscerning t 2 → HasNumber t (Finite 1)
-  of_one none not_two = (
-    omega arith,
-    inl (omega arith),
-    λ two. absurd (omega (arith, two)),
-    λ m l. elim (cases_order m 2) [
-      | inl e ↦ subst (λ (k : ℕ). ¬ IsDiscerning t k) (sym e) not_two
+  pub of_number : (n : ℕ) → IsNumberUpTo t most (Some n) → HasNumber t (Finite n)
+  of_number n (two, within, d, none) = (
+    omega (arith, two),
+    elim (cases_order n (length t.states)) [
+      | inl e ↦ inr (omega (arith, e))
       | inr o ↦ elim o [
-        | inl less ↦ absurd (omega (arith, l, less))
-        | inr more ↦ none_above 3 (omega arith) none m (omega (arith, more))
+        | inl less ↦ inr (omega (arith, less))
+        | inr more ↦ elim (cases_order n 2) [
+          | inl e ↦ inl (omega (arith, e))
+          | inr p ↦ elim p [
+            | inl less ↦ inl (omega (arith, less))
+            | inr three ↦ absurd (few n (omega (arith, three)) more d)
+          ]
+        ]
       ]
     ],
+    λ _. d,
+    none_above n none,
   )
+
+  pub of_none : IsNumberUpTo t most None → HasNumber t (Finite 1)
+  of_none none = (omega arith, inl (omega arith), λ two. absurd (omega (arith, two)), none_above 1 (λ m l u. none m (omega (arith, l)) u))
+
+-- ---- two operations that last
+
+pub always_by_found : (t : TypeTable) → ((start many single : ℕ) → Lasts t start many single → IsAlwaysDiscerning t)
+    → (found : Option Lasting) → IfSome found (IsLasting t) → is_some found ≡ true → IsAlwaysDiscerning t
+always_by_found t always None lasts e = absurd (true≢false (sym e))
+always_by_found t always (Some l) lasts e = always l.start.0 l.many.0 l.single.0 lasts
+
+pub always_up_to : (t : TypeTable) (limit : ℕ) → 2 ≤ limit → IsAlwaysDiscerning t → IsNumberUpTo t limit (Some limit)
+always_up_to t limit two always = (two, omega arith, always limit two, λ m l u. absurd (omega (arith, l, u)))
+
+-- ---- a type that is discerning for the same numbers
+
+pub same_up_to : (t u : TypeTable) → HaveSameNumbers t u → (limit : ℕ) (number : Option ℕ) → IsNumberUpTo u limit number → IsNumberUpTo t limit number
+same_up_to t u same limit None none = λ m two within d. none m two within ((same.1 m).0 d)
+same_up_to t u same limit (Some n) (two, within, d, none) = (two, within, (same.1 n).1 d, λ m l w e. none m l w ((same.1 m).0 e))
+
+pub same_number : (t u : TypeTable) → HaveSameNumbers t u → (number : ConsensusNumber) → HasNumber u number → HasNumber t number
+same_number t u same (Finite n) (one, few, d, none) =
+    (one, subst (λ (k : ℕ). (n ≤ 2) ⊎ (n ≤ k)) (sym same.0) few, λ two. (same.1 n).1 (d two), λ m l e. none m l ((same.1 m).0 e))
+same_number t u same Infinite always = λ n two. (same.1 n).1 (always n two)
+
+pub same_without_copies : (t u : TypeTable) → ((n : ℕ) → IsDiscerning t n ↔ IsDiscerning u n) → IsWithoutCopies t u → HaveSameNumbers t u
+same_without_copies t u same without = (ap (λ (v : TypeTable). length v.states) (sym without.2), same)

@@ -1,20 +1,18 @@
 //! The consensus number, with no limit.
-ghost use Rattle.std.specs.Prelude.{◌≤◌, ◌<◌, ◌≡◌, ◌⊎◌, ◌↔◌, length, IfOk, IsTrue};
-ghost use Rattle.cn_choice.specs.Discerning.{IsDiscerning};
-ghost use Rattle.cn_stocks.specs.Greatest.{IsGreatestSplit};
+ghost use Rattle.std.specs.Prelude.{◌≤◌, ℕ, length, IfOk};
+ghost use Rattle.cn_table.specs.TypeTable.{IsClosed, TypeTable};
+ghost use Rattle.cn_choice.specs.Discerning.{IsNumberUpTo};
 ghost use Rattle.cn_stocks.specs.declared.limits.TheConstants.{MOST_SIZE};
 ghost use Rattle.cn_stocks.specs.Lasting.{NoneLast};
 ghost use Rattle.cn_search.specs.Numbers.{HasNumber};
-ghost use Rattle.cn_finding.specs.declared.limits.TheConstants.{GREATEST_LIMIT, LEAST_LIMIT};
 
 use crate::fallback::with_fallback;
-use crate::numbers::{LEAST_WITHOUT_TEAMS, decide};
-use cn_finding::LEAST_LIMIT;
+use crate::numbers::LEAST_WITHOUT_TEAMS;
+use crate::up_to::{number_by_stocks, with_same_numbers};
+use cn_stocks::Threading;
 use cn_stocks::lasting::find_lasting;
 use cn_stocks::lasting::laws::{finite_numbers_are_few, lasting_operations_decide};
-use cn_stocks::laws::splits_decide;
-use cn_stocks::{GreatestSplit, Threading, greatest_split};
-use cn_table::Table;
+use cn_table::{Table, laws};
 use std::alloc::{AllocError, Global};
 use std::fmt;
 use std::thread::Threads;
@@ -26,8 +24,6 @@ pub enum ConsensusNumber {
     Finite(u8),
     /// For every number.
     Infinite,
-    /// For as many as the first number at least, and for no more than the second.
-    Between(u8, u8),
 }
 
 impl fmt::Display for ConsensusNumber {
@@ -40,7 +36,6 @@ impl fmt::Display for ConsensusNumber {
         match self {
             ConsensusNumber::Finite(n) => write!(f, "{n}"),
             ConsensusNumber::Infinite => write!(f, "infinite"),
-            ConsensusNumber::Between(least, most) => write!(f, "{least} to {most}"),
         }
     }
 }
@@ -49,34 +44,24 @@ impl fmt::Display for ConsensusNumber {
 fn most_operations(table: &Table) -> u8
     ensures range { (3 ≤ result) × (result ≤ MOST_SIZE) }
     ensures all { length table.now.states ≤ result }
-    ensures least { (result ≡ 3) ⊎ (result ≡ length table.now.states) }
 {
     table.states().max(LEAST_WITHOUT_TEAMS)
 }
 
-/// The number of a type no two of whose operations last, from the greatest number of operations of
-/// which some stock splits, and from whether the type is 2-discerning.
-fn number_by_stocks(table: &Table, most: u8, found: GreatestSplit, two: bool) -> ConsensusNumber
-    requires finite { NoneLast table.now }
-    requires range { 3 ≤ most }
-    requires all { length table.now.states ≤ most }
-    requires least { (most ≡ 3) ⊎ (most ≡ length table.now.states) }
-    requires found { IsGreatestSplit table.now most found }
-    requires two { IsTrue two ↔ IsDiscerning table.now 2 }
-    ensures { HasNumber table.now result }
+/// The number of a type no two of whose operations last, from the one up to at least as many
+/// processes as it has states.
+fn finite(found: Option<u8>) -> ConsensusNumber
+    ensures { (t : TypeTable) (most : ℕ) → IsClosed t → NoneLast t → 3 ≤ most
+        → length t.states ≤ most → IsNumberUpTo t most found → HasNumber t result }
 {
-    splits_decide();
     finite_numbers_are_few();
-    let states = table.states();
     match found {
-        GreatestSplit::Size(n) => ConsensusNumber::Finite(n),
-        GreatestSplit::AtLeast(n) => ConsensusNumber::Between(n, states),
-        GreatestSplit::NoSize if two => ConsensusNumber::Finite(2),
-        GreatestSplit::NoSize => ConsensusNumber::Finite(1),
+        Some(n) => ConsensusNumber::Finite(n),
+        None => ConsensusNumber::Finite(1),
     }
 }
 
-/// The number of a type no two of whose operations last, in these threads.
+/// The number of a type no two of whose operations last.
 fn finite_number<T: Threads + Sync>(
     rt: &T,
     alloc: Global,
@@ -86,30 +71,15 @@ fn finite_number<T: Threads + Sync>(
     requires { NoneLast table.now }
     ensures { IfOk result (HasNumber table.now) }
 {
+    laws::tables_are_valid(table);
+    laws::tables_are_closed();
     let most = most_operations(table);
-    let found = greatest_split(rt, alloc, table, most, threading)?;
-    let two = decide(rt, alloc, table, LEAST_LIMIT, threading)?;
-    Ok(number_by_stocks(table, most, found, two.is_discerning))
+    let found = number_by_stocks(rt, alloc, table, most, threading)?;
+    Ok(finite(found))
 }
 
-/// The consensus number of a type, by the n for which it is n-discerning: `Infinite` if it is for
-/// every n, and else the greatest such n, or 1.
-///
-/// It is infinite exactly if two operations last from some state
-/// ([`lasting_operations_decide`](cn_stocks::lasting::laws::lasting_operations_decide)). A finite number is
-/// at most the number of states
-/// ([`finite_numbers_are_few`](cn_stocks::lasting::laws::finite_numbers_are_few)), and a search by stocks
-/// finds it ([`greatest_split`]). It is told as `Between` two numbers only if the stocks become too
-/// many: from 9 on for a type with 8 operations, from 10 on for one with 7, and from 13 on for one
-/// with 6.
-///
-/// The search goes on in several threads, or in one if these get too little memory.
-///
-/// # Errors
-///
-/// `AllocError` if memory is too little for one thread.
-// promise: number-without-limit (HasNumber: IsNumberOf)
-pub fn consensus_number<T: Threads + Sync>(
+/// The number of a type, with all its operations.
+fn number_of_all<T: Threads + Sync>(
     rt: &T,
     alloc: Global,
     table: &Table,
@@ -127,4 +97,31 @@ pub fn consensus_number<T: Threads + Sync>(
             ensures { IfOk result (HasNumber table.entry.now) }
         { finite_number(rt, alloc, table, threading) },
     )
+}
+
+/// The consensus number of a type, with no limit: the greatest n for which it is n-discerning, 1 if
+/// there is no such n from 2 on, or that it is n-discerning for every n.
+///
+/// It is infinite if two operations last
+/// ([`lasting_operations_decide`](cn_stocks::lasting::laws::lasting_operations_decide)). A finite number is
+/// at most the number of states
+/// ([`finite_numbers_are_few`](cn_stocks::lasting::laws::finite_numbers_are_few)), and a search by stocks
+/// finds it ([`exact_split`](cn_telling::exact_split)). Of operations that do the same in each state
+/// one is searched ([`copies_tell_nothing`](cn_copies::laws::copies_tell_nothing)).
+///
+/// The search goes on in several threads, or in one if these get too little memory.
+///
+/// # Errors
+///
+/// `AllocError` if memory is too little for one thread.
+// promise: number-without-limit (HasNumber: IsNumberOf)
+pub fn consensus_number<T: Threads + Sync>(
+    rt: &T,
+    alloc: Global,
+    table: &Table,
+) -> Result<ConsensusNumber, AllocError>
+    ensures { IfOk result (HasNumber table.now) }
+{
+    let searched = with_same_numbers(alloc, table)?;
+    number_of_all(rt, alloc, &searched)
 }

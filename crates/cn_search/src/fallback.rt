@@ -8,7 +8,7 @@ use cn_stocks::Threading;
 use std::alloc::{AllocError, Global};
 
 /// A search of any table in one thread takes fewer bytes.
-const ENOUGH_BYTES: usize = 64 * 1024 * 1024;
+const ENOUGH_BYTES: usize = 96 * 1024 * 1024;
 
 /// Takes as much memory as a search of any table in one thread takes, and writes nothing into it.
 /// While it is held, the stacks of threads and what they allocate stay out of it. So a search in

@@ -1,16 +1,11 @@
 //! The number alone, one number of processes after the other.
-ghost use Rattle.std.specs.Prelude.{◌≡◌, ◌<◌, ◌≤◌, ◌⊎◌, ◌↔◌, Err, IfErr, IfOk, IsTrue, MatchOption, None, OnOk, Some};
+ghost use Rattle.std.specs.Prelude.{◌≡◌, ◌<◌, ◌≤◌, ◌↔◌, IfOk, IsTrue, MatchOption, None};
 ghost use Rattle.cn_choice.specs.Discerning.{IsDiscerning, IsNumberUpTo};
 ghost use Rattle.cn_choice.specs.declared.limits.TheConstants.{MOST_PROCESSES};
 ghost use Rattle.cn_search.specs.Search.{IsKnownAt};
-ghost use Rattle.cn_search.specs.Faults.{number_fault};
 ghost use Rattle.cn_search.specs.declared.numbers.TheConstants.{LEAST_WITHOUT_TEAMS};
 ghost use Rattle.cn_finding.specs.declared.limits.TheConstants.{GREATEST_LIMIT, LEAST_LIMIT};
-ghost use Rattle.cn_search.specs.declared.fault.FindFault.{FindFault};
-ghost use Rattle.cn_search.specs.declared.fault.FindFault.TheVariants.{OutOfMemory};
 
-use crate::FindFault;
-use crate::fallback::with_fallback;
 use crate::kind::{DiscerningWitness, first_within};
 use cn_choice::{Choice, count, laws};
 use cn_stocks::Threading;
@@ -161,45 +156,4 @@ pub(crate) fn greatest_number<T: Threads + Sync>(
         witness = decision.witness;
     }
     Ok(Greatest { number, witness })
-}
-
-/// The number of a type up to a limit, from [`LEAST_LIMIT`](crate::LEAST_LIMIT) to
-/// [`GREATEST_LIMIT`](crate::GREATEST_LIMIT), with no evidence for it: the greatest n from 2 to the
-/// limit for which the type is n-discerning, if there is one.
-///
-/// It is the number of the [`Finding`](crate::Finding) of the type and the limit
-/// ([`number_of_finding`](cn_finding::laws::number_of_finding)), and of a type with any number of
-/// choices. Few choices are searched as far as the first witness; if there are many, stocks of
-/// operations decide. Both go on in several threads, or in one if these get too little memory.
-///
-/// # Errors
-///
-/// `BadLimit` if the limit is not one of these. `OutOfMemory` can stand in place of a number.
-pub fn number<T: Threads + Sync>(
-    rt: &T,
-    alloc: Global,
-    table: &Table,
-    limit: u8,
-) -> Result<Option<u8>, FindFault>
-    // promise: number-of-a-finding (IsNumberUpTo)
-    ensures number { IfOk result (IsNumberUpTo table.now limit) }
-    // promise: number-of-a-finding
-    ensures searched { OnOk result (number_fault limit ≡ None) }
-    // promise: number-of-a-finding
-    ensures told { (e : FindFault) → number_fault limit ≡ Some e → result ≡ Err e }
-    // promise: number-of-a-finding
-    ensures refused { IfErr result (λ e. (e ≡ OutOfMemory) ⊎ (number_fault limit ≡ Some e)) }
-{
-    if let Some(fault) = FindFault::of_limit(limit) {
-        return Err(fault);
-    }
-    let found = with_fallback(
-        alloc,
-        |threading: Threading| -> Result<Greatest, AllocError>
-            requires some { LEAST_LIMIT ≤ limit }
-            requires few { limit ≤ GREATEST_LIMIT }
-            ensures { IfOk result (λ found. IsNumberUpTo table.entry.now limit found.number) }
-        { greatest_number(rt, alloc, table, limit, threading) },
-    )?;
-    Ok(found.number)
 }

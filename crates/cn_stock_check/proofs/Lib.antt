@@ -5,4 +5,4 @@ pub mod StockLemmas
 pub mod SetLemmas
 pub mod SeenLemmas
 pub mod WitnessLemmas
-pub mod FaultLemmas
+pub mod Firsts

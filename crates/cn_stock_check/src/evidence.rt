@@ -54,7 +54,7 @@ fn first_noticing(table: &Table) -> Option<u8>
 }
 
 /// Checks that the joins are evidence that the type of the table is not n-discerning.
-#[tactic(auto, using(crate::proofs::FaultLemmas::first_join, crate::proofs::FaultLemmas::first_notice, crate::proofs::FaultLemmas::first_left_open, crate::proofs::FaultLemmas::is_evidence))]
+#[tactic(auto, using(crate::proofs::Firsts::no_join, crate::proofs::Firsts::notice, crate::proofs::Firsts::left_open, crate::proofs::Firsts::is_evidence))]
 pub(crate) fn check_evidence(
     alloc: Global,
     table: &Table,

@@ -39,7 +39,7 @@ fn check_witness(
 }
 
 /// Checks that the claim shows the lower bound.
-#[tactic(auto, using(crate::proofs::FaultLemmas::first_least_shape, crate::proofs::FaultLemmas::first_not_lasting, crate::proofs::FaultLemmas::first_of_witness))]
+#[tactic(auto, using(crate::proofs::Firsts::first_least_shape, crate::proofs::Firsts::first_not_lasting, crate::proofs::Firsts::first_of_witness))]
 pub(crate) fn check_least(
     alloc: Global,
     table: &Table,

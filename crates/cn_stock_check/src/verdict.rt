@@ -40,7 +40,7 @@ fn are_in_range(at_least: Option<u8>, at_most: Option<u8>) -> bool
 }
 
 /// Checks that the joins show the upper bound.
-#[tactic(auto, using(crate::proofs::FaultLemmas::first_of_joins, crate::proofs::FaultLemmas::first_most_shape))]
+#[tactic(auto, using(crate::proofs::Firsts::first_of_joins, crate::proofs::Firsts::first_most_shape))]
 fn check_most(
     alloc: Global,
     table: &Table,

@@ -1,12 +1,12 @@
 -- Choices that divide a stock by a set, and their joins.
-use Rattle.std.proofs.Common.{◌≡◌, ◌≢◌, ℕ, zero, suc, ◌+◌, ◌<◌, ◌≤◌, ◌⊎◌, inl, inr, List, [], ◌∷◌, ◌++◌, length, get_or, refl, sym, ap, ◌∙◌, subst, arith, All, Contains, IfNone, Option, Some, None}
+use Rattle.std.proofs.Common.{◌≡◌, ◌≢◌, ℕ, zero, suc, ◌+◌, ◌<◌, ◌≤◌, ◌⊎◌, inl, inr, List, [], ◌∷◌, ◌++◌, length, get_or, refl, sym, ◌∙◌, subst, arith, All, IfNone, Option, Some, None}
 use Rattle.std.specs.Prelude.{IsBitSet, MatchOption}
 use Rattle.std.proofs.lemmas.List.{get_or_default}
 use Rattle.std.proofs.lemmas.List.Elements.{All-contains, All-get_or, All-nil, All-push}
 use Rattle.cn_table.specs.TypeTable.{TypeTable}
 use Rattle.cn_choice.specs.Canonical.{Choice, IsChoiceFor}
 use Rattle.cn_stocks.specs.Words.{HaveSame, IsKnown, times}
-use Rattle.cn_stocks.proofs.Times.{one, place_in, times_append, times_last, times_none, times_of_place, within_same, same_sym}
+use Rattle.cn_stocks.proofs.Times.{place_in, times_append, times_last, times_of_place, within_same, same_sym}
 use Rattle.cn_joins.specs.Joins.{Join}
 use Rattle.cn_stock_find.specs.Crossing.{HasInside, HasOutside, IsCrossing, IsDividedBy}
 use Rattle.cn_stock_find.specs.Words.{IsJoinOfTeams}

@@ -1,5 +1,5 @@
 -- The certificate of what is found.
-use Rattle.std.proofs.Common.{◌≡◌, ◌≢◌, ℕ, ◌+◌, ◌<◌, ◌≤◌, ◌⊎◌, inl, inr, List, [], ◌∷◌, ◌++◌, length, refl, sym, ap, ◌∙◌, subst, arith, All, Contains, Option, Some, None, Bool, true, false, cond, true≢false, nat_le, ◌&&◌}
+use Rattle.std.proofs.Common.{◌≡◌, ◌≢◌, ℕ, ◌+◌, ◌<◌, ◌≤◌, List, ◌∷◌, refl, sym, subst, arith, Contains, Option, Some, None, Bool, true, false, cond, nat_le, ◌&&◌}
 use Rattle.std.specs.Prelude.{MatchOption, nat_lt}
 use Rattle.std.specs.Option.{option_map}
 use Rattle.std.proofs.lemmas.Bool.{and_parts, leb-true, ltb-true}
@@ -10,7 +10,7 @@ use Rattle.cn_choice.specs.Canonical.{Choice, raw_choice_of}
 use Rattle.cn_choice.specs.Discerning.{IsDiscerning, IsNumberUpTo, IsWitness}
 use Rattle.cn_choice.specs.Live.{live_choices}
 use Rattle.cn_choice.specs.RawChoices.{IsRawChoice}
-use Rattle.cn_finding.specs.Evidence.{IsFirstAmong, IsFirstWitness, NoneIsWitness}
+use Rattle.cn_finding.specs.Evidence.{IsFirstAmong, NoneIsWitness}
 use Rattle.cn_joins.specs.Evidence.{IsEvidenceAgainst}
 use Rattle.cn_joins.specs.Joins.{Join}
 use Rattle.cn_search.specs.Faults.{number_fault}
@@ -18,7 +18,6 @@ use Rattle.cn_search.specs.declared.fault.FindFault.TheVariants.{BadLimit}
 use Rattle.cn_stock_cert.specs.Certificate.{StockCertificate}
 use Rattle.cn_stock_cert.specs.Right.{AreInRange, ShowsAtLeast, ShowsAtMost}
 use Rattle.cn_stock_cert.specs.declared.certificate.StockClaim.{StockClaim}
-use Rattle.cn_stock_cert.specs.declared.certificate.StockClaim.TheVariants.{Alone, Witness}
 use Rattle.cn_stock_find.specs.Found.{IsFirstClaim, IsFoundCertificate, lower_bound, upper_bound}
 
 -- ---- the upper bound

@@ -1,10 +1,10 @@
 -- The words of the orders of a collision are a join.
-use Rattle.std.proofs.Common.{◌≡◌, ◌≢◌, ℕ, ◌+◌, ◌-◌, ◌<◌, ◌≤◌, List, [], ◌∷◌, ◌++◌, length, map, get_or, refl, sym, ap, ◌∙◌, subst, arith, Some, None, Option, All, Contains, eqb-true, length-append, nat_eq}
+use Rattle.std.proofs.Common.{◌≡◌, ◌≢◌, ℕ, ◌+◌, ◌-◌, ◌<◌, ◌≤◌, List, [], ◌∷◌, ◌++◌, length, get_or, refl, sym, ap, ◌∙◌, subst, arith, Some, None, All, Contains, eqb-true, length-append, nat_eq}
 use Rattle.std.specs.Prelude.{slice_get, slice_index, position}
 use Rattle.std.specs.Option.{option_map}
 use Rattle.std.proofs.lemmas.Bool.{and_parts, leb-true, ltb-true}
 use Rattle.std.proofs.lemmas.List.{get_or_append_left, get_or-append_right, get_or-map, length-map}
-use Rattle.std.proofs.lemmas.List.Elements.{All-weaker, Contains-get_or, recursion_from_All}
+use Rattle.std.proofs.lemmas.List.Elements.{All-weaker, Contains-get_or}
 use Rattle.std.proofs.lemmas.List.Quantifiers.{position-Some}
 use Rattle.std.proofs.lemmas.Option.{get_or_from_slice_get, same_Some}
 use Rattle.cn_table.specs.TypeTable.{TypeTable}
@@ -18,7 +18,7 @@ use Rattle.cn_choice.specs.OutcomeSets.{BeginsIn, operations_of, pair_of}
 use Rattle.cn_choice.specs.RawChoices.{IsRawChoice, RawChoice}
 use Rattle.cn_choice.specs.TeamOrders.{team_from, team_to}
 use Rattle.cn_choice.proofs.OrderLemmas.TeamOrders.{begins_to}
-use Rattle.cn_stocks.specs.Words.{IsKnown, IsWithin, times}
+use Rattle.cn_stocks.specs.Words.{IsWithin}
 use Rattle.cn_stocks.proofs.Teams.{operations_known}
 use Rattle.cn_stocks.proofs.WordOrders.{order_within}
 use Rattle.cn_joins.specs.Joins.{IsPlacedWord, Join, PlacedWord, asked, beginning, pair_of_word}

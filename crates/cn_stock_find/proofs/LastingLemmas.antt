@@ -1,16 +1,15 @@
 -- Lists of the states that orders of two operations that last leave.
-use Rattle.std.proofs.Common.{◌≡◌, ℕ, zero, suc, ◌<◌, ◌↔◌, inl, inr, List, ◌∷◌, ◌++◌, length, refl, sym, ap, ◌∙◌, subst, All, Contains}
-use Rattle.std.specs.Prelude.{IsBitSet, replicate}
+use Rattle.std.proofs.Common.{◌≡◌, ℕ, zero, suc, ◌<◌, ◌↔◌, inl, inr, List, ◌∷◌, length, refl, sym, ap, ◌∙◌, All, Contains}
+use Rattle.std.specs.Prelude.{replicate}
 use Rattle.std.proofs.lemmas.List.Elements.{Contains-get_or}
 use Rattle.cn_table.specs.TypeTable.{TypeTable, transition}
 use Rattle.cn_table.specs.Run.{state_after}
-use Rattle.cn_outcomes.specs.Subsets.{Below}
-use Rattle.cn_stocks.specs.Lasting.{Lasts, ManyFirst, SingleFirst}
+use Rattle.cn_stocks.specs.Lasting.{Lasts, SingleFirst}
 use Rattle.cn_stocks.specs.Repeats.{FirstOnward, Onward}
 use Rattle.cn_stocks.specs.declared.lasting.search.Lasting.{Lasting}
 use Rattle.cn_stocks.proofs.LastingLemmas.Closing.{onward_more, single_first}
 use Rattle.cn_stocks.proofs.LastingLemmas.Forms.{state_join}
-use Rattle.cn_stock_cert.specs.LastingSets.{AreLastingSets, LastingSets, LeadsInto}
+use Rattle.cn_stock_cert.specs.LastingSets.{AreLastingSets, LastingSets}
 use Rattle.cn_stock_find.specs.LeastSets.{AreLeastSets, ManyAlone, SingleBehind}
 
 -- what holds of the elements of a list, one by one

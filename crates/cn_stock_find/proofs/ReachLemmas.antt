@@ -1,5 +1,5 @@
 -- Operations that joins connect, with more joins.
-use Rattle.std.proofs.Common.{◌≡◌, ℕ, ◌+◌, ◌<◌, ◌≤◌, ◌⊎◌, inl, inr, List, [], ◌∷◌, ◌++◌, length, get_or, refl, sym, ap, ◌∙◌, subst, arith, All, Contains, Bool, true, false, ◌↔◌, take}
+use Rattle.std.proofs.Common.{◌≡◌, ℕ, ◌<◌, ◌≤◌, ◌⊎◌, inl, inr, List, [], ◌∷◌, ◌++◌, length, get_or, refl, sym, ap, ◌∙◌, subst, arith, All, Contains, Bool, true, false, ◌↔◌, take}
 use Rattle.std.specs.Prelude.{IsBitSet}
 use Rattle.std.proofs.lemmas.List.Elements.{All-append, All-get_or, All-nil, All-cons, Contains-append_left, Contains-append_right, Contains-push}
 use Rattle.std.proofs.lemmas.List.{append_assoc, take_all}
@@ -8,9 +8,9 @@ use Rattle.cn_stocks.specs.Words.{HaveSame, IsWithin, times}
 use Rattle.cn_stocks.proofs.SplitLemmas.{subset_above}
 use Rattle.cn_stocks.proofs.StockLemmas.{before_or_behind}
 use Rattle.cn_stocks.proofs.Times.{place_in, same_or, within_same}
-use Rattle.cn_joins.specs.Joins.{Connect, IsJoin, IsJoinWithin, Join, KeepsApart, beginning}
+use Rattle.cn_joins.specs.Joins.{Connect, IsJoinWithin, Join, KeepsApart, beginning}
 use Rattle.cn_stock_find.specs.Crossing.{IsCrossing}
-use Rattle.cn_stock_find.specs.Reached.{AreMore, AreReached, Covers, HasAllOf, IsJoinFrom}
+use Rattle.cn_stock_find.specs.Reached.{AreMore, AreReached, Covers, IsJoinFrom}
 
 -- ---- more joins
 

@@ -1,7 +1,7 @@
 -- The operations that joins connect with one of a stock.
-use Rattle.std.specs.Prelude.{◌≡◌, ℕ, ◌≤◌, ◌<◌, List, ◌++◌, length, All, IsBitSet, Bool}
+use Rattle.std.specs.Prelude.{◌≡◌, ℕ, ◌≤◌, List, ◌++◌, length, All, IsBitSet, Bool}
 use Rattle.cn_table.specs.TypeTable.{TypeTable}
-use Rattle.cn_joins.specs.Joins.{Connect, IsJoin, IsJoinWithin, Join, KeepsApart, beginning}
+use Rattle.cn_joins.specs.Joins.{Connect, IsJoin, Join, KeepsApart}
 use Rattle.cn_stocks.specs.Words.{IsKnown, times}
 
 -- wherever the joins keep the chosen operations and the others apart, each of the set is chosen

@@ -2,7 +2,7 @@
 use Rattle.std.proofs.Common.{ℕ, zero, suc, ◌+◌, ◌-◌, ◌^◌, ◌≤◌, ◌≡◌, arith, refl}
 use Rattle.std.proofs.Math.Nat.{pow-suc}
 use Rattle.std.proofs.lemmas.Nat.{pow_pos}
-use Rattle.cn_stocks.specs.Greatest.{count_of_stocks}
+use Rattle.cn_stocks.specs.Counts.{count_of_stocks}
 
 pub few_stocks : (operations n m : ℕ) → operations + n ≤ m → count_of_stocks operations n ≤ 2 ^ m
 few_stocks operations zero m l = omega (arith, pow_pos m)

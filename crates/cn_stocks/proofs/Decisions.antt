@@ -8,15 +8,11 @@ use Rattle.cn_outcomes.proofs.LastProcess.{zero_has_none}
 use Rattle.cn_stocks.specs.declared.levels.Level.{Level}
 use Rattle.cn_stocks.specs.declared.search.Search.{Search}
 use Rattle.cn_stocks.specs.declared.stocks.Stock.{Stock}
-use Rattle.cn_choice.specs.declared.limits.TheConstants.{MOST_PROCESSES}
-use Rattle.cn_stocks.specs.declared.decision.GreatestSplit.{GreatestSplit}
-use Rattle.cn_stocks.specs.declared.decision.GreatestSplit.TheVariants.{AtLeast, NoSize, Size}
-use Rattle.cn_stocks.specs.Greatest.{IsGreatestRecord, IsGreatestSplit}
+use Rattle.cn_stocks.specs.Greatest.{IsGreatestRecord}
 use Rattle.cn_stocks.specs.Records.{SomeRecords}
 use Rattle.cn_stocks.specs.Levels.{AreStarts, IsLevel, IsNext, IsSearch, IsSearchFor, IsSomeNext}
 use Rattle.cn_stocks.specs.declared.question.Question.{Question}
 use Rattle.cn_stocks.specs.Questions.{AreStartsOfSome, HoldsFrom, SomeHolds}
-use Rattle.cn_stocks.specs.Splits.{SomeSplits}
 use Rattle.cn_stocks.specs.Stocks.{AreStocks}
 use Rattle.cn_stocks.specs.Words.{HaveSame, times}
 use Rattle.cn_stocks.proofs.PairLemmas.{some_bit}
@@ -96,15 +92,6 @@ no_level_is question t level stocks starts ends shown = record {
   ends = zip_none _ level.stocks.list.items level.ends.items stocks ends;
   shown = λ e. zip_none _ level.stocks.list.items level.shown.items stocks shown;
 }
-
--- what is found says whether n operations split
-pub size_decides : (t : TypeTable) (n : ℕ) (found : GreatestSplit) → n ≤ MOST_PROCESSES → 3 ≤ n → IsGreatestSplit t n found → SomeSplits t n → found ≡ Size n
-size_decides t n NoSize few some is splits = absurd (is n some (omega arith) splits)
-size_decides t n (Size m) few some is splits = elim (before_or_behind m n) [
-  | inl l ↦ absurd (is.3 n (omega (arith, l)) (omega arith) splits)
-  | inr l ↦ ap Size (omega (arith, l, is.1))
-]
-size_decides t n (AtLeast m) few some is splits = absurd (omega (arith, is.0, is.1, few))
 
 -- what a search for a question says of it
 pub next_for : (question asked : Question) (t : TypeTable) (n : ℕ) (s : Search) → asked ≡ question → IsSearchFor asked t n s → IsSearchFor question t n s

@@ -2,8 +2,6 @@
 pub mod Counts
 pub mod Forms
 pub mod Pigeons
-pub mod Cuts
-pub mod Soon
 pub mod Always
 pub mod Closing
 pub mod Growth

@@ -9,6 +9,7 @@ pub mod Reach
 pub mod Levels
 pub mod Components
 pub mod Meetings
+pub mod Counts
 pub mod Greatest
 pub mod Lasting
 pub mod Leaving

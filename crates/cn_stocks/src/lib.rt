@@ -3,9 +3,8 @@
 //! [`is_discerning`] looks for a start state and a list of n operations, the stock, that falls into
 //! two parts: nothing that a process can see comes both from orders that begin in the one and from
 //! orders that begin in the other. By [`laws::splits_decide`] the type is n-discerning exactly
-//! where there is such a stock. [`greatest_split`] answers the greatest number of operations of
-//! such a stock, and [`splitting_starts`] the start states of the stocks of one number of
-//! operations. [`lasting`] has the types that are n-discerning for every n.
+//! where there is such a stock. [`splitting_starts`] answers the start states of the stocks of one
+//! number of operations. [`lasting`] has the types that are n-discerning for every n.
 //!
 //! ```text
 //! if is_discerning(rt, alloc, &table, 3, Threading::Many)? {
@@ -31,7 +30,5 @@ pub mod stocks;
 mod threading;
 mod word_sets;
 
-pub use decision::{
-    GreatestSplit, greatest_record, greatest_split, is_discerning, splitting_starts,
-};
+pub use decision::{greatest_record, is_discerning, splitting_starts};
 pub use threading::Threading;

@@ -30,7 +30,7 @@ impl Threading {
 
     /// In which threads a list of so many stocks is gone over. A short list is done sooner than a
     /// thread starts.
-    pub(crate) fn for_stocks(self, count: usize) -> Threading
+    pub fn for_stocks(self, count: usize) -> Threading
         // promise: choice-of-threads
         ensures one { self ≡ One → result ≡ One }
         // promise: choice-of-threads

@@ -8,7 +8,7 @@ use Rattle.cn_table.specs.TypeTable.{TypeTable, operation_names}
 use Rattle.cn_interference.specs.declared.pairs.OperationPair.{OperationPair}
 use Rattle.cn_interference.specs.declared.rules.Rule.{Rule}
 use Rattle.cn_interference.specs.declared.rules.Rule.TheVariants.{InterferenceWithoutAnswers, HiddenOperations, TwoStates, Interference}
-use Rattle.cn_search.specs.declared.exact.ConsensusNumber.TheVariants.{Finite, Infinite, Between}
+use Rattle.cn_search.specs.declared.exact.ConsensusNumber.TheVariants.{Finite, Infinite}
 use Rattle.cn_reasons.specs.declared.explanation.Explanation.{Explanation}
 use Rattle.cn_reasons.specs.declared.lasting.LastingWitness.{LastingWitness}
 use Rattle.cn_reasons.specs.declared.numbers.TypeNumber.{TypeNumber}
@@ -106,14 +106,12 @@ abbrev pub not_refuted : ℕ → TypeNumber → List ℕ
 not_refuted limit (UpTo most number) = limit_line limit
 not_refuted limit (Exact (Finite n)) = no_list (n + 1)
 not_refuted limit (Exact Infinite) = each_number_line
-not_refuted limit (Exact (Between least most)) = no_list (most + 1)
 
 -- what is refuted is told of a number up to a limit, and of a finite one
 abbrev pub tells_refutation : TypeNumber → Bool
 tells_refutation (UpTo limit number) = true
 tells_refutation (Exact (Finite n)) = true
 tells_refutation (Exact Infinite) = false
-tells_refutation (Exact (Between least most)) = false
 
 abbrev pub no_more : Explanation → Option (Refutation Way) → List ℕ
 no_more e None = not_refuted e.limit e.number

@@ -6,7 +6,7 @@ use Rattle.cn_table.specs.Names.{name_at}
 use Rattle.cn_table.specs.TypeTable.{TypeTable}
 use Rattle.cn_table.specs.declared.elements.State.{State}
 use Rattle.cn_search.specs.declared.exact.ConsensusNumber.{ConsensusNumber}
-use Rattle.cn_search.specs.declared.exact.ConsensusNumber.TheVariants.{Finite, Infinite, Between}
+use Rattle.cn_search.specs.declared.exact.ConsensusNumber.TheVariants.{Finite, Infinite}
 use Rattle.cn_reasons.specs.declared.group.ChoiceGroups.{ChoiceGroups}
 use Rattle.cn_sentences.specs.Groups.{members}
 use Rattle.cn_sentences.specs.States.{states_told}
@@ -43,7 +43,6 @@ start_text t kind words =
 abbrev pub is_exactly : ConsensusNumber → ℕ → Bool
 is_exactly (Finite n) m = n == m
 is_exactly Infinite m = false
-is_exactly (Between least most) m = false
 
 -- for how many processes the witness is
 unfoldable pub said_for : ℕ → List ℕ

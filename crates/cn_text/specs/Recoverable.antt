@@ -7,7 +7,7 @@ use Rattle.cn_table.specs.TypeTable.{TypeTable}
 use Rattle.cn_choice.specs.TeamNames.{team_name}
 use Rattle.cn_search.specs.NumberText.{number_text}
 use Rattle.cn_search.specs.declared.exact.ConsensusNumber.{ConsensusNumber}
-use Rattle.cn_search.specs.declared.exact.ConsensusNumber.TheVariants.{Finite, Infinite, Between}
+use Rattle.cn_search.specs.declared.exact.ConsensusNumber.TheVariants.{Finite, Infinite}
 use Rattle.cn_reasons.specs.declared.reasons.RecoverableWay.{RecoverableWay}
 use Rattle.cn_reasons.specs.declared.recording.Reader.{Reader}
 use Rattle.cn_reasons.specs.declared.recording.RecordingWitness.{RecordingWitness}
@@ -57,7 +57,6 @@ refutation_text t r =
 abbrev pub not_refuted : ConsensusNumber → List ℕ
 not_refuted Infinite = each_number_line
 not_refuted (Finite n) = no_list (n + 1)
-not_refuted (Between least most) = no_list (most + 1)
 
 abbrev pub no_more : TypeTable → ConsensusNumber → Option (Refutation RecoverableWay) → List ℕ
 no_more t number None = not_refuted number

@@ -233,9 +233,6 @@ fn push_not_refuted(text: &mut String, limit: u8, number: TypeNumber) -> Result<
         TypeNumber::UpTo(_, _) => push_limit_line(text, limit),
         TypeNumber::Exact(ConsensusNumber::Finite(n)) => push_no_list(text, n as u16 + 1),
         TypeNumber::Exact(ConsensusNumber::Infinite) => push_each_number(text),
-        TypeNumber::Exact(ConsensusNumber::Between(_, most)) => {
-            push_no_list(text, most as u16 + 1)
-        }
     }
 }
 

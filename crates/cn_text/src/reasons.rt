@@ -105,7 +105,7 @@ fn is_exactly(number: ConsensusNumber, processes: u8) -> bool
 {
     match number {
         ConsensusNumber::Finite(n) => n == processes,
-        ConsensusNumber::Infinite | ConsensusNumber::Between(_, _) => false,
+        ConsensusNumber::Infinite => false,
     }
 }
 

@@ -106,7 +106,6 @@ fn push_not_refuted(text: &mut String, number: ConsensusNumber) -> Result<(), Al
     match number {
         ConsensusNumber::Infinite => push_each_number(text),
         ConsensusNumber::Finite(n) => push_no_list(text, n as u16 + 1),
-        ConsensusNumber::Between(_, most) => push_no_list(text, most as u16 + 1),
     }
 }
 

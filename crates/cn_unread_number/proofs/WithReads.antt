@@ -12,7 +12,7 @@ use Rattle.cn_choice.specs.Live.{live_choices}
 use Rattle.cn_choice.specs.declared.limits.TheConstants.{MOST_PROCESSES}
 use Rattle.cn_search.specs.Numbers.{HasNumber}
 use Rattle.cn_search.specs.declared.exact.ConsensusNumber.{ConsensusNumber}
-use Rattle.cn_search.specs.declared.exact.ConsensusNumber.TheVariants.{Finite, Infinite, Between}
+use Rattle.cn_search.specs.declared.exact.ConsensusNumber.TheVariants.{Finite, Infinite}
 use Rattle.cn_views.specs.VisibleChoices.{IsFirstVisible, NoneVisible, SomeLooksTell}
 use Rattle.cn_views.proofs.Telling.{only_witnesses}
 use Rattle.cn_unread_number.specs.Bounds.{as_bounds, most_with_reads}
@@ -57,18 +57,15 @@ module _ (law : WitnessesShow) (t : TypeTable) where
       → n ≤ MOST_PROCESSES → IsVisibleUpTo t n → AreAtLeast (as_bounds number) n
   reads_at_least (Finite k) h n few visible = none_above k n h.3 h.0 visible
   reads_at_least Infinite h n few visible = tt
-  reads_at_least (Between low high) h n few visible = omega (arith, few, h.2)
 
   pub below_most : (number : ConsensusNumber) → HasNumber t number → (n : ℕ)
       → n ≤ MOST_PROCESSES → IsVisibleUpTo t n → IfSome (most_with_reads number) (λ m. n ≤ m)
   below_most (Finite k) h n few visible = none_above k n h.3 h.0 visible
   below_most Infinite h n few visible = tt
-  below_most (Between low high) h n few visible = omega (arith, few, h.2, h.3)
 
   reads_at_most : (number : ConsensusNumber) → IfSome (most_with_reads number) (AreAtMost (as_bounds number))
   reads_at_most (Finite k) = omega arith
   reads_at_most Infinite = tt
-  reads_at_most (Between low high) = omega arith
 
   pub close : (number : ConsensusNumber) → HasNumber t number → AreCloseTo t (as_bounds number) number
   close number h = record {
@@ -82,7 +79,6 @@ pub shown : (t : TypeTable) (how : Telling) → TellsBy t how → (number : Cons
     → AreShown t (least.Telling how) most.WithReads (as_bounds number)
 shown t how tells (Finite n) h = (h.0, (tells, h.2), h.3)
 shown t how tells Infinite h = λ n two. (tells, λ _. h n two)
-shown t how tells (Between low high) h = (omega (arith, h.2), (tells, λ _. h.0), h.1, h.3)
 
 -- what shows the greatest number that there is with reads
 pub most_shown : (t : TypeTable) (number : ConsensusNumber) → HasNumber t number → (m : ℕ)
@@ -90,5 +86,3 @@ pub most_shown : (t : TypeTable) (number : ConsensusNumber) → HasNumber t numb
 most_shown t (Finite n) h m e = let same : n ≡ m = cc e in
     (λ k l. h.3 k (omega (arith, same, l)), omega (arith, same, h.0))
 most_shown t Infinite h m e = absurd (cc e)
-most_shown t (Between low high) h m e = let same : high ≡ m = cc e in
-    (λ k l. h.1 k (omega (arith, same, l)), omega (arith, same, h.2, h.3))

@@ -41,10 +41,8 @@ NeedsNoReads t = (n : ℕ) → IsDiscerning t n → IsVisibleFor t n
 abbrev pub as_bounds : ConsensusNumber → NumberBounds
 as_bounds (reads.Finite n) = Exactly n
 as_bounds reads.Infinite = Infinite
-as_bounds (reads.Between least most) = Between least most
 
 -- the greatest number that a type can have without reads, by its number with reads
 abbrev pub most_with_reads : ConsensusNumber → Option ℕ
 most_with_reads (reads.Finite n) = Some n
 most_with_reads reads.Infinite = None
-most_with_reads (reads.Between least most) = Some most

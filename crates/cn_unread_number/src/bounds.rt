@@ -26,7 +26,6 @@ impl NumberBounds {
         match number {
             ConsensusNumber::Finite(n) => NumberBounds::Exactly(n),
             ConsensusNumber::Infinite => NumberBounds::Infinite,
-            ConsensusNumber::Between(least, most) => NumberBounds::Between(least, most),
         }
     }
 }
@@ -38,7 +37,6 @@ pub(crate) fn most_with_reads(number: ConsensusNumber) -> Option<u8>
     match number {
         ConsensusNumber::Finite(n) => Some(n),
         ConsensusNumber::Infinite => None,
-        ConsensusNumber::Between(_, most) => Some(most),
     }
 }
 

@@ -1,5 +1,5 @@
 -- The getters of clap, in the words of the command line.
-use Rattle.std.proofs.Common.{ℕ, ◌≡◌, ◌∙◌, ◌&&◌, ◌||◌, Bool, true, false, List, [], ◌∷◌, Option, Some, None, Result, Ok, Err, ap, ap₂, refl, subst, sym, codes, Vec, Global}
+use Rattle.std.proofs.Common.{ℕ, ◌≡◌, ◌⊎◌, ◌∙◌, ◌&&◌, ◌||◌, inl, inr, Bool, true, false, List, [], ◌∷◌, Option, Some, None, Result, Ok, Err, ap, ap₂, refl, subst, sym, codes, Vec, Global}
 use Rattle.std.specs.Prelude.{MatchBool, is_some, not, option_and_then, option_map, slice_get, unwrap_or, map}
 use Rattle.std.specs.List.{find}
 use Rattle.std.specs.Str.{bytes_eq}
@@ -13,7 +13,7 @@ use Rattle.cn_form.specs.declared.answer_form.DocumentForm.{DocumentForm}
 use Rattle.cn_form.specs.declared.plan_form.PlanForm.{PlanForm}
 use Rattle.cn_form.specs.declared.answer_form.AnswerForm.{AnswerForm}
 use Rattle.cn_words.specs.declared.commands.Command.{Command}
-use Rattle.cn_words.specs.declared.commands.Command.TheVariants.{Find, FindUnread, FindShortest, Lint, Draw, Check, CheckUnread, CheckShortest, Explain, Why, WhyRecoverable, WhyUnread, Pairs, Show, Agree, Replay, Serve}
+use Rattle.cn_words.specs.declared.commands.Command.TheVariants.{Find, FindUnread, FindShortest, FindStocks, Lint, Draw, Check, CheckUnread, CheckShortest, CheckStocks, Explain, Why, WhyRecoverable, WhyUnread, Pairs, Show, Agree, Replay, Serve}
 use Rattle.cn_words.specs.declared.commands.Invocation.{Invocation}
 use Rattle.cn_words.specs.declared.commands.Invocation.TheVariants.{Classify, Lives, OfTable, ShortestPlan, ShortestRun}
 use Rattle.cn_words.specs.declared.commands.OpeningWords.{OpeningWords}
@@ -102,20 +102,27 @@ WantsLimit rows without_read recoverable =
 abbrev pub WantsFindLimit : List Row → Bool → Type 0
 WantsFindLimit rows without_read = MatchBool without_read (first_of (codes "limit") rows ≡ None) ((n : Option ℕ) × HasLimit rows n)
 
--- what `find` requires of the words for its limit, and for its number of processes
-abbrev pub WantsFind : List Row → Bool → Bool → Type 0
-WantsFind rows shortest without_read =
+-- what `find` requires of the words for its limit, and for its number of processes, where no stocks are asked for
+abbrev pub WantsChoices : List Row → Bool → Bool → Type 0
+WantsChoices rows shortest without_read =
     MatchBool shortest ((without_read ≡ false) × (first_of (codes "limit") rows ≡ None) × ((n : Option ℕ) × HasOptionalNumber (codes "processes") rows n))
     ((is_of_plan rows ≡ false) × WantsFindLimit rows without_read)
 
--- a certificate of a plan is none of the number without reads
+-- the same, and by stocks
+abbrev pub WantsFind : List Row → Bool → Bool → Bool → Type 0
+WantsFind rows stocks shortest without_read =
+    MatchBool stocks ((without_read ≡ false) × (is_of_plan rows ≡ false) × ((n : Option ℕ) × HasLimit rows n))
+    (WantsChoices rows shortest without_read)
+
+-- a certificate is of one kind alone
 abbrev pub is_check_twofold : List Row → Bool
-is_check_twofold rows = is_flag_set (codes "shortest") rows && is_flag_set (codes "without-read") rows
+is_check_twofold rows = (is_flag_set (codes "shortest") rows && is_flag_set (codes "without-read") rows)
+    || (is_flag_set (codes "stocks") rows && (is_flag_set (codes "without-read") rows || is_flag_set (codes "shortest") rows))
 
 -- what a command of this name requires of its words
 abbrev pub Wants : Text → List Row → Type 0
 Wants name rows =
-    MatchBool (bytes_eq name (codes "find")) (WantsFind rows (is_flag_set (codes "shortest") rows) (is_flag_set (codes "without-read") rows))
+    MatchBool (bytes_eq name (codes "find")) (WantsFind rows (is_flag_set (codes "stocks") rows) (is_flag_set (codes "shortest") rows) (is_flag_set (codes "without-read") rows))
     (MatchBool (bytes_eq name (codes "lint")) ((form : AnswerForm) × HasAnswerForm rows form)
     (MatchBool (bytes_eq name (codes "draw")) (Unit {0})
     (MatchBool (bytes_eq name (codes "check")) (((w : TextSource) × HasCertificate rows w) × ((form : AnswerForm) × HasAnswerForm rows form) × (is_check_twofold rows ≡ false))
@@ -135,40 +142,52 @@ Wants name rows =
 pub limits : (rows : List Row) (w r d e : Bool) → w ≡ d → r ≡ e → WantsLimit rows d e → WantsLimit rows w r
 limits rows w r d e is_w is_r h = subst (λ b. WantsLimit rows b r) (sym is_w) (subst (λ b. WantsLimit rows d b) (sym is_r) h)
 
-finds : (rows : List Row) (s w d e : Bool) → s ≡ d → w ≡ e → WantsFind rows d e → WantsFind rows s w
-finds rows s w d e is_s is_w h = subst (λ b. WantsFind rows b w) (sym is_s) (subst (λ b. WantsFind rows d b) (sym is_w) h)
+finds : (rows : List Row) (k s w d e : Bool) → k ≡ false → s ≡ d → w ≡ e → WantsChoices rows d e → WantsFind rows k s w
+finds rows k s w d e is_k is_s is_w h =
+    subst (λ b. WantsFind rows b s w) (sym is_k) (subst (λ b. WantsChoices rows b w) (sym is_s) (subst (λ b. WantsChoices rows d b) (sym is_w) h))
+
+finds_stocks : (rows : List Row) (k s w : Bool) → k ≡ true → (w ≡ false) × (is_of_plan rows ≡ false) × ((n : Option ℕ) × HasLimit rows n) → WantsFind rows k s w
+finds_stocks rows k s w is_k h = subst (λ b. WantsFind rows b s w) (sym is_k) h
 
 first_unset : (a b : Bool) → (a || b) ≡ false → a ≡ false
 first_unset false b e = refl
 first_unset true b e = cc
 
-neither : (a b : Bool) → a ≡ false → (a && b) ≡ false
-neither false b e = refl
-neither true b e = cc
-
-not_both : (a b : Bool) → b ≡ false → (a && b) ≡ false
-not_both a b e = subst (λ x. (a && x) ≡ false) (sym e) (go a)
-  where
-    go : (x : Bool) → (x && false) ≡ false
-    go true = refl
-    go false = refl
+-- of three flags two are not set
+one_alone : (s w k : Bool) → ((k ≡ false) × ((s ≡ false) ⊎ (w ≡ false))) ⊎ ((w ≡ false) × (s ≡ false))
+    → ((s && w) || (k && (w || s))) ≡ false
+one_alone false false false h = refl
+one_alone false true false h = refl
+one_alone true false false h = refl
+one_alone true true false (inl (e, inl f)) = cc
+one_alone true true false (inl (e, inr f)) = cc
+one_alone true true false (inr (e, f)) = cc
+one_alone false false true h = refl
+one_alone s true true (inl (e, f)) = cc
+one_alone s true true (inr (e, f)) = cc
+one_alone true false true (inl (e, f)) = cc
+one_alone true false true (inr (e, f)) = cc
 
 -- every command of this name has what it requires
 pub wants : (name : Text) (rows : List Row) (c : Command) → IsNamed name rows c → Wants name rows
 wants name rows (Find limit) h =
-    subst (λ n. Wants n rows) (sym h.0) (finds rows _ _ false false (first_unset _ _ h.1.2) h.1.1 (h.1.2, (limit, h.1.0)))
+    subst (λ n. Wants n rows) (sym h.0) (finds rows _ _ _ false false h.1.3 (first_unset _ _ h.1.2) h.1.1 (h.1.2, (limit, h.1.0)))
 wants name rows FindUnread h =
-    subst (λ n. Wants n rows) (sym h.0) (finds rows _ _ false true (first_unset _ _ h.1.2) h.1.0 (h.1.2, h.1.1))
+    subst (λ n. Wants n rows) (sym h.0) (finds rows _ _ _ false true h.1.3 (first_unset _ _ h.1.2) h.1.0 (h.1.2, h.1.1))
 wants name rows (FindShortest processes) h =
-    subst (λ n. Wants n rows) (sym h.0) (finds rows _ _ true false h.1.0 h.1.1 (refl, h.1.2, (processes, h.1.3)))
+    subst (λ n. Wants n rows) (sym h.0) (finds rows _ _ _ true false h.1.4 h.1.0 h.1.1 (refl, h.1.2, (processes, h.1.3)))
+wants name rows (FindStocks limit) h =
+    subst (λ n. Wants n rows) (sym h.0) (finds_stocks rows _ _ _ h.1.0 (h.1.1, h.1.2, (limit, h.1.3)))
 wants name rows (Lint form) h = subst (λ n. Wants n rows) (sym h.0) (form, h.1)
 wants name rows Draw h = subst (λ n. Wants n rows) (sym h.0) tt
 wants name rows (Check certificate form) h =
-    subst (λ n. Wants n rows) (sym h.0) ((certificate, h.1.0), (form, h.1.1), neither _ _ h.1.3)
+    subst (λ n. Wants n rows) (sym h.0) ((certificate, h.1.0), (form, h.1.1), one_alone _ _ _ (inl (h.1.4, inl h.1.3)))
 wants name rows (CheckUnread certificate form) h =
-    subst (λ n. Wants n rows) (sym h.0) ((certificate, h.1.0), (form, h.1.1), neither _ _ h.1.3)
+    subst (λ n. Wants n rows) (sym h.0) ((certificate, h.1.0), (form, h.1.1), one_alone _ _ _ (inl (h.1.4, inl h.1.3)))
 wants name rows (CheckShortest certificate form) h =
-    subst (λ n. Wants n rows) (sym h.0) ((certificate, h.1.0), (form, h.1.1), not_both _ _ h.1.2)
+    subst (λ n. Wants n rows) (sym h.0) ((certificate, h.1.0), (form, h.1.1), one_alone _ _ _ (inl (h.1.4, inr h.1.2)))
+wants name rows (CheckStocks certificate form) h =
+    subst (λ n. Wants n rows) (sym h.0) ((certificate, h.1.0), (form, h.1.1), one_alone _ _ _ (inr (h.1.2, h.1.3)))
 wants name rows (Explain certificate all form) h = subst (λ n. Wants n rows) (sym h.0) ((certificate, h.1.0), (form, h.1.2))
 wants name rows (Why limit all form) h =
     subst (λ n. Wants n rows) (sym h.0) (limits rows _ _ false false h.1.4 h.1.3 (limit, h.1.0), (form, h.1.2))

@@ -121,8 +121,8 @@ opening_words = certificate_word ∷ required_word (codes "OBJECT") ∷ required
 
 abbrev pub find_words : Shape
 find_words = command_with (codes "find")
-    (limit_option ∷ flag (codes "without-read") ∷ flag (codes "shortest") ∷ processes_option
-    ∷ table_option ∷ file_word ∷ [])
+    (limit_option ∷ flag (codes "stocks") ∷ flag (codes "without-read") ∷ flag (codes "shortest")
+    ∷ processes_option ∷ table_option ∷ file_word ∷ [])
 
 abbrev pub classify_words : ValueParser → Shape
 classify_words forms = command_with (codes "classify")
@@ -134,8 +134,8 @@ lint_words forms = command_with (codes "lint") (form_option forms ∷ table_opti
 
 abbrev pub check_words : ValueParser → Shape
 check_words forms = command_with (codes "check")
-    (certificate_word ∷ flag (codes "without-read") ∷ flag (codes "shortest") ∷ form_option forms
-    ∷ table_option ∷ file_word ∷ [])
+    (certificate_word ∷ flag (codes "stocks") ∷ flag (codes "without-read")
+    ∷ flag (codes "shortest") ∷ form_option forms ∷ table_option ∷ file_word ∷ [])
 
 abbrev pub explain_words : ValueParser → Shape
 explain_words forms = command_with (codes "explain")

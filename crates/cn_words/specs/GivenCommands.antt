@@ -19,6 +19,7 @@ use Rattle.cn_words.specs.declared.commands.Command.{Command}
 use Rattle.cn_words.specs.declared.commands.Command.TheVariants.{Find, FindUnread, Lint}
 use Rattle.cn_words.specs.declared.commands.Command.TheVariants.{Draw, Check, CheckUnread}
 use Rattle.cn_words.specs.declared.commands.Command.TheVariants.{CheckShortest, FindShortest}
+use Rattle.cn_words.specs.declared.commands.Command.TheVariants.{CheckStocks, FindStocks}
 use Rattle.cn_words.specs.declared.commands.Command.TheVariants.{Explain, Why, WhyRecoverable}
 use Rattle.cn_words.specs.declared.commands.Command.TheVariants.{WhyUnread, Pairs, Show, Agree}
 use Rattle.cn_words.specs.declared.commands.Command.TheVariants.{Replay, Serve}
@@ -198,11 +199,13 @@ abbrev pub name_of : Command → Text
 name_of (Find limit) = codes "find"
 name_of FindUnread = codes "find"
 name_of (FindShortest processes) = codes "find"
+name_of (FindStocks limit) = codes "find"
 name_of (Lint form) = codes "lint"
 name_of Draw = codes "draw"
 name_of (Check certificate form) = codes "check"
 name_of (CheckUnread certificate form) = codes "check"
 name_of (CheckShortest certificate form) = codes "check"
+name_of (CheckStocks certificate form) = codes "check"
 name_of (Explain certificate all form) = codes "explain"
 name_of (Why limit all form) = codes "why"
 name_of (WhyRecoverable all form) = codes "why"
@@ -217,26 +220,39 @@ name_of (Serve opening calls form) = codes "serve"
 abbrev pub HasArguments : List Row → Command → Type 0
 HasArguments rows (Find limit) =
     HasLimit rows limit × (is_flag_set (codes "without-read") rows ≡ false)
-    × (is_of_plan rows ≡ false)
+    × (is_of_plan rows ≡ false) × (is_flag_set (codes "stocks") rows ≡ false)
 HasArguments rows FindUnread = (is_flag_set (codes "without-read") rows ≡ true)
     × (first_of (codes "limit") rows ≡ None) × (is_of_plan rows ≡ false)
+    × (is_flag_set (codes "stocks") rows ≡ false)
 HasArguments rows (FindShortest processes) = (is_flag_set (codes "shortest") rows ≡ true)
     × (is_flag_set (codes "without-read") rows ≡ false) × (first_of (codes "limit") rows ≡ None)
     × HasOptionalNumber (codes "processes") rows processes
+    × (is_flag_set (codes "stocks") rows ≡ false)
+HasArguments rows (FindStocks limit) = (is_flag_set (codes "stocks") rows ≡ true)
+    × (is_flag_set (codes "without-read") rows ≡ false) × (is_of_plan rows ≡ false)
+    × HasLimit rows limit
 HasArguments rows (Lint form) = HasAnswerForm rows form
 HasArguments rows Draw = Unit {0}
 HasArguments rows (Check certificate form) =
     HasCertificate rows certificate × HasAnswerForm rows form
     × (is_flag_set (codes "without-read") rows ≡ false)
     × (is_flag_set (codes "shortest") rows ≡ false)
+    × (is_flag_set (codes "stocks") rows ≡ false)
 HasArguments rows (CheckUnread certificate form) =
     HasCertificate rows certificate × HasAnswerForm rows form
     × (is_flag_set (codes "without-read") rows ≡ true)
     × (is_flag_set (codes "shortest") rows ≡ false)
+    × (is_flag_set (codes "stocks") rows ≡ false)
 HasArguments rows (CheckShortest certificate form) =
     HasCertificate rows certificate × HasAnswerForm rows form
     × (is_flag_set (codes "without-read") rows ≡ false)
     × (is_flag_set (codes "shortest") rows ≡ true)
+    × (is_flag_set (codes "stocks") rows ≡ false)
+HasArguments rows (CheckStocks certificate form) =
+    HasCertificate rows certificate × HasAnswerForm rows form
+    × (is_flag_set (codes "without-read") rows ≡ false)
+    × (is_flag_set (codes "shortest") rows ≡ false)
+    × (is_flag_set (codes "stocks") rows ≡ true)
 HasArguments rows (Explain certificate all form) =
     HasCertificate rows certificate × HasFlag (codes "all") rows all × HasAnswerForm rows form
 HasArguments rows (Why limit all form) =

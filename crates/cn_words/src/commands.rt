@@ -6,6 +6,7 @@ ghost use Rattle.cn_words.specs.GivenCommands.{Finds, HasAnswerForm, HasCertific
 ghost use Rattle.cn_words.specs.declared.commands.CommandFault.TheVariants.{OutOfMemory};
 
 use crate::plan_certificates::{check_shortest, find_shortest};
+use crate::stock_certificates::{check_stocks, find_stocks};
 use crate::without_certificate::{
     RunWords, asks_for_shortest, excludes_certificate, is_flag_set, is_of_plan, plan_table,
     run_table, run_words,
@@ -52,6 +53,11 @@ pub enum Command<'a> {
         /// How many processes there are, if a number was given.
         processes: Option<u8>,
     },
+    /// Writes the certificate by stocks, up to the limit if one was given.
+    FindStocks {
+        /// The greatest number looked for, if one was given.
+        limit: Option<u8>,
+    },
     /// Writes the table, or every flaw of it.
     Lint {
         /// The form of the answer.
@@ -75,6 +81,13 @@ pub enum Command<'a> {
     },
     /// Checks the certificate of a plan.
     CheckShortest {
+        /// The certificate.
+        certificate: TextSource<'a>,
+        /// The form of the answer.
+        form: AnswerForm,
+    },
+    /// Checks the certificate by stocks.
+    CheckStocks {
         /// The certificate.
         certificate: TextSource<'a>,
         /// The form of the answer.
@@ -270,7 +283,7 @@ pub(crate) fn optional_number(words: &ArgMatches<'_>, id: &str) -> Option<Option
 }
 
 // The limit, if one was given.
-fn optional_limit(words: &ArgMatches<'_>) -> Option<Option<u8>>
+pub(crate) fn optional_limit(words: &ArgMatches<'_>) -> Option<Option<u8>>
     ensures { Finds (HasLimit (rows_in words.now)) result }
 {
     optional_number(words, "limit")
@@ -359,16 +372,24 @@ pub(crate) fn is_unread(words: &ArgMatches<'_>) -> bool
 }
 
 // Whether the shortest plan is asked for.
-fn is_shortest(words: &ArgMatches<'_>) -> bool
+pub(crate) fn is_shortest(words: &ArgMatches<'_>) -> bool
     ensures { result ≡ is_flag_set (codes "shortest") (rows_in words.now) }
 {
     is_flag_set(words, "shortest")
+}
+
+// Whether a certificate by stocks is asked for.
+fn is_by_stocks(words: &ArgMatches<'_>) -> bool
+    ensures { result ≡ is_flag_set (codes "stocks") (rows_in words.now) }
+{
+    is_flag_set(words, "stocks")
 }
 
 // The number without reads has no limit.
 fn find_unread<'a>(words: &ArgMatches<'a>) -> Option<Command<'a>>
     requires unread { is_flag_set (codes "without-read") (rows_in words.now) ≡ true }
     requires number { is_of_plan (rows_in words.now) ≡ false }
+    requires choices { is_flag_set (codes "stocks") (rows_in words.now) ≡ false }
     ensures { Finds (IsNamed (codes "find") (rows_in words.now)) result }
 {
     match word(words, "limit") {
@@ -380,6 +401,9 @@ fn find_unread<'a>(words: &ArgMatches<'a>) -> Option<Command<'a>>
 fn find<'a>(words: &ArgMatches<'a>) -> Option<Command<'a>>
     ensures { Finds (IsNamed (codes "find") (rows_in words.now)) result }
 {
+    if is_by_stocks(words) {
+        return find_stocks(words);
+    }
     if is_shortest(words) {
         return find_shortest(words);
     }
@@ -436,6 +460,9 @@ fn lint<'a>(words: &ArgMatches<'a>) -> Option<Command<'a>>
 fn check<'a>(words: &ArgMatches<'a>) -> Option<Command<'a>>
     ensures { Finds (IsNamed (codes "check") (rows_in words.now)) result }
 {
+    if is_by_stocks(words) {
+        return check_stocks(words);
+    }
     if is_shortest(words) {
         return check_shortest(words);
     }

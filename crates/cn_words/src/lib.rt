@@ -17,6 +17,7 @@
 mod commands;
 mod plan_certificates;
 mod replies;
+mod stock_certificates;
 mod without_certificate;
 mod words;
 

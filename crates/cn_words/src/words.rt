@@ -74,6 +74,12 @@ where an operation leaves the start state unchanged cannot work and are skipped.
 1: not even two processes can agree. A number equal to N stands for at least N; a smaller one is
 that for every greater limit too.
 
+With --stocks writes a certificate of another form, which is much shorter and which no type is too
+large for. Against one process more it has joins: two runs that begin with different operations, after
+which some process sees the same, so that both operations are in one team. Joins within a stock of
+operations that connect all of these leave no two teams. Without --limit a finite number has the
+bounds of --limit 8; infinite is told by two operations that last.
+
 With --without-read writes a certificate of bounds of the number for objects that are not read, with
 the evidence for each. They may be wider than what classify --without-read writes: of the greatest
 number a certificate says nothing from 8 on. No read is added: list every way to look at the object.
@@ -100,8 +106,7 @@ agree, and no more.
 
 Writes for each type a line as soon as its number is known: its name, a colon, and the number; 1
 where it is n-discerning for no n from 2 on; infinite where it is for every n. A finite number is at
-most the number of states. A line says N to M where it would take too long to tell which of these
-the number is; N is then 9 or more.
+most the number of states.
 
 With --limit N, from 2 to 8, no number above N is looked for: a line says at least N where the
 number is N or more.
@@ -157,6 +162,9 @@ Writes ok where the certificate is of this type and shows its number: its witnes
 one process more, it has a counterexample (collision) to every choice, in order; choices where an
 operation leaves the start state unchanged cannot work, and version 2 skips them. What find writes
 is accepted, and so is a certificate with another witness or other collisions.
+
+With --stocks CERT is a certificate that find --stocks writes, or another one of its form. Writes ok
+where it is of this type and its evidence shows its bounds.
 
 With --without-read CERT is a certificate that find --without-read writes. Writes ok where it is of
 this type and its evidence shows its bounds.
@@ -541,10 +549,12 @@ fn with_table<'a>(
 fn find<'a>(alloc: Global) -> Result<Command<'a>, AllocError>
     ensures { IfOk result (IsCommand find_words) }
 {
+    let stocks = "Writes a certificate by stocks, which is shorter, for every type";
     let without_read = "Writes a certificate of the number without reads, with no limit";
     let shortest = "Writes a certificate of the shortest plan, with no limit";
     let command = bare_command(alloc, "find", FIND_ABOUT, FIND_AFTER);
     let command = with_argument(Ok(command), limit(alloc));
+    let command = with_argument(command, flag(alloc, "stocks", stocks));
     let command = with_argument(command, flag(alloc, "without-read", without_read));
     let command = with_argument(command, flag(alloc, "shortest", shortest));
     let command = with_argument(command, processes(alloc));
@@ -593,9 +603,11 @@ fn check<'a>(alloc: Global) -> Result<Command<'a>, AllocError>
     ensures { IfOk result (IsCommandFor answer_forms check_words) }
 {
     let help = "The form in which the answer is written";
+    let stocks = "Checks a certificate by stocks";
     let without_read = "Checks a certificate of the number without reads";
     let shortest = "Checks a certificate of a plan, and tells how short the plan is";
     let command = with_certificate(alloc, "check", CHECK_ABOUT, CHECK_AFTER);
+    let command = with_argument(command, flag(alloc, "stocks", stocks));
     let command = with_argument(command, flag(alloc, "without-read", without_read));
     let command = with_argument(command, flag(alloc, "shortest", shortest));
     let command = with_argument(command, form(alloc, &ANSWER_FORMS, help));

@@ -4,6 +4,7 @@ use Rattle.cn_words.specs.declared.commands.Command.{Command}
 use Rattle.cn_words.specs.declared.commands.Command.TheVariants.{Find, FindUnread, Lint}
 use Rattle.cn_words.specs.declared.commands.Command.TheVariants.{Draw, Check, CheckUnread}
 use Rattle.cn_words.specs.declared.commands.Command.TheVariants.{CheckShortest, FindShortest}
+use Rattle.cn_words.specs.declared.commands.Command.TheVariants.{CheckStocks, FindStocks}
 use Rattle.cn_words.specs.declared.commands.Command.TheVariants.{Explain, Why, WhyRecoverable}
 use Rattle.cn_words.specs.declared.commands.Command.TheVariants.{WhyUnread, Pairs, Show, Agree}
 use Rattle.cn_words.specs.declared.commands.Command.TheVariants.{Replay, Serve}
@@ -15,11 +16,13 @@ use Rattle.cn_hall.specs.declared.call.Go.TheVariants.{On}
 use Rattle.cn_app.specs.Commands.Agree.{HasAgreeReport, SpellLists}
 use Rattle.cn_app.specs.Commands.Check.{HasCheckReport}
 use Rattle.cn_app.specs.Commands.CheckShortest.{HasCheckShortestReport}
+use Rattle.cn_app.specs.Commands.CheckStocks.{HasCheckStocksReport}
 use Rattle.cn_app.specs.Commands.CheckUnread.{HasCheckUnreadReport}
 use Rattle.cn_app.specs.Commands.Draw.{HasDrawReport}
 use Rattle.cn_app.specs.Commands.Explain.{HasExplainReport}
 use Rattle.cn_app.specs.Commands.Find.{HasFindReport}
 use Rattle.cn_app.specs.Commands.FindShortest.{HasFindShortestReport}
+use Rattle.cn_app.specs.Commands.FindStocks.{HasFindStocksReport}
 use Rattle.cn_app.specs.Commands.FindUnread.{HasFindUnreadReport}
 use Rattle.cn_app.specs.Commands.Lint.{HasLintReport}
 use Rattle.cn_app.specs.Commands.Pairs.{HasPairsReport}
@@ -55,6 +58,7 @@ abbrev pub certificate_of : Command → Option TextSource
 certificate_of (Find limit) = None
 certificate_of FindUnread = None
 certificate_of (FindShortest processes) = None
+certificate_of (FindStocks limit) = None
 certificate_of (Lint form) = None
 certificate_of Draw = None
 certificate_of (Why limit all form) = None
@@ -64,6 +68,7 @@ certificate_of (Pairs form) = None
 certificate_of (Check certificate form) = Some certificate
 certificate_of (CheckUnread certificate form) = Some certificate
 certificate_of (CheckShortest certificate form) = Some certificate
+certificate_of (CheckStocks certificate form) = Some certificate
 certificate_of (Explain certificate all form) = Some certificate
 certificate_of (Show certificate form) = Some certificate
 certificate_of (Agree certificate inputs schedule steps form) = Some certificate
@@ -174,6 +179,9 @@ module _ {S D F W : Type 0} (remaining : S → Option (List ℕ)) (left : LazyFi
   RunsOn stdin table (FindShortest processes) u v r =
       ReadsTable (left_of remaining left) (left_of remaining left) left contents files table
       (λ t. HasFindShortestReport t processes) u v r
+  RunsOn stdin table (FindStocks limit) u v r =
+      ReadsTable (left_of remaining left) (left_of remaining left) left contents files table
+      (λ t. HasFindStocksReport t limit) u v r
   RunsOn stdin table (Lint form) u v r = ReadsTable (left_of remaining left)
       (left_of remaining left) left contents files table (λ t. HasLintReport t form) u v r
   RunsOn stdin table Draw u v r = ReadsTable (left_of remaining left) (left_of remaining left) left
@@ -199,6 +207,9 @@ module _ {S D F W : Type 0} (remaining : S → Option (List ℕ)) (left : LazyFi
   RunsOn stdin table (CheckShortest certificate form) u v r = With stdin certificate
       (λ c. ReadsBoth (left_of remaining left) (left_of remaining left) left contents files table c
       (Unit {0}) (λ t d. HasCheckShortestReport t d form) u v r)
+  RunsOn stdin table (CheckStocks certificate form) u v r = With stdin certificate
+      (λ c. ReadsBoth (left_of remaining left) (left_of remaining left) left contents files table c
+      (Unit {0}) (λ t d. HasCheckStocksReport t d form) u v r)
   RunsOn stdin table (Explain certificate all form) u v r = With stdin certificate
       (λ c. ReadsBoth (left_of remaining left) (left_of remaining left) left contents files table c
       (Unit {0}) (λ t d. HasExplainReport t d all form) u v r)

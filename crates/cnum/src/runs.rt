@@ -229,6 +229,7 @@ fn certificate_of<'a>(command: &Command<'a>) -> Option<TextSource<'a>>
         Command::Check { certificate, .. }
         | Command::CheckUnread { certificate, .. }
         | Command::CheckShortest { certificate, .. }
+        | Command::CheckStocks { certificate, .. }
         | Command::Explain { certificate, .. }
         | Command::Show { certificate, .. }
         | Command::Agree { certificate, .. } => Some(certificate),
@@ -259,6 +260,7 @@ fn run_on_table<T: Threads + Sync + Disk, S: Read + Copy, O: Write>(
         Command::FindShortest { processes } => {
             commands::find_shortest(alloc, table, output, processes)
         }
+        Command::FindStocks { limit } => commands::find_stocks(rt, alloc, table, output, limit),
         Command::Lint { form } => commands::lint(alloc, table, output, form),
         Command::Draw => commands::draw(alloc, table, output),
         Command::Why { limit, all, form } => {
@@ -305,6 +307,10 @@ fn run_on_both<T: Threads + Wait + Sync + Disk, S: Read + Copy + Drop, O: Write>
         }
         Command::CheckShortest { form, .. } => {
             let end = commands::check_shortest(alloc, &mut table, &mut certificate, output, form);
+            noting_table(alloc, known, &table, end)
+        }
+        Command::CheckStocks { form, .. } => {
+            let end = commands::check_stocks(alloc, &mut table, &mut certificate, output, form);
             noting_table(alloc, known, &table, end)
         }
         Command::Explain { all, form, .. } => {

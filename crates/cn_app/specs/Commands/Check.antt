@@ -22,6 +22,9 @@ use Rattle.cn_io.specs.declared.fault.AppFault.{AppFault}
 use Rattle.cn_io.specs.declared.fault.AppFault.TheVariants.{Certificate, Check, OutOfMemory}
 use Rattle.cn_io.specs.declared.fault.AppFault.TheVariants.{TreeCertificate, TreeCheck}
 use Rattle.cn_io.specs.declared.fault.AppFault.TheVariants.{UnreadCertificate, UnreadCheck}
+use Rattle.cn_io.specs.declared.fault.AppFault.TheVariants.{StockCertificate, StockCheck}
+use Rattle.cn_stock_cert.specs.FaultText.{stock_cert_fault_name, stock_cert_fault_number}
+use Rattle.cn_json.specs.StockVerdict.{stock_fault_data}
 use Rattle.cn_app.specs.Commands.PlanFaults.{tree_fault_data, tree_unread_data}
 
 -- the number of the certificate is that of the table up to its limit
@@ -50,6 +53,9 @@ fault_told (UnreadCertificate fault) = Some (refused_data
     (named_fault (unread_cert_fault_name fault) (unread_cert_fault_number fault)))
 fault_told (UnreadCheck fault) =
     Some (refused_data (named_fault (unread_fault_name fault) (unread_fault_number fault)))
+fault_told (StockCertificate fault) = Some (refused_data
+    (named_fault (stock_cert_fault_name fault) (stock_cert_fault_number fault)))
+fault_told (StockCheck fault) = Some (refused_data (stock_fault_data fault))
 fault_told (TreeCertificate fault) = Some (tree_unread_data fault)
 fault_told (TreeCheck fault) = Some (refused_data (tree_fault_data fault))
 fault_told e = None

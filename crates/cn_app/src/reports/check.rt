@@ -12,7 +12,7 @@ ghost use Rattle.cn_io.specs.declared.report.Outcome.TheVariants.{Refused};
 use cn_check::laws::accepted_is_right;
 use cn_form::AnswerForm;
 use cn_io::{AppFault, Outcome, Report, with_line_feed};
-use cn_json::{refusal_at_node_json, refusal_json, unread_json, verdict_json};
+use cn_json::{refusal_at_node_json, refusal_json, stock_refusal_json, unread_json, verdict_json};
 use cn_tree_check::TreeCheckFault;
 use std::alloc::{AllocError, Global};
 
@@ -78,6 +78,10 @@ fn told_fault(alloc: Global, fault: AppFault) -> Result<Report, AppFault>
                 fault,
             )
         }
+        AppFault::StockCertificate(unread) => {
+            refusal(refusal_json(alloc, unread.name(), unread.number())?, fault)
+        }
+        AppFault::StockCheck(refused) => refusal(stock_refusal_json(alloc, refused)?, fault),
         AppFault::TreeCertificate(unread) => {
             refusal(refusal_json(alloc, unread.name(), unread.number())?, fault)
         }

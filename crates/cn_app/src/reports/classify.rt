@@ -314,9 +314,9 @@ pub fn classification_of<'a, T: Threads + Sync>(
 /// As text they are a line: the name of the type, a colon and a space, and the number; then, if it
 /// is asked for, a comma, the word `recoverable` and the recoverable number; then, if that is asked
 /// for, a comma, the words `without read` and what is known of the number without reads
-/// ([`NumberBounds`]). A number is `N`, `infinite`, or `N to M`. With a limit, it is `1` where there
-/// is none, and `at least N` where it is the limit. What stands there without `at least` is the
-/// number for every greater limit too
+/// ([`NumberBounds`]). A number is `N` or `infinite`. With a limit, it is `1` where there is none,
+/// and `at least N` where it is the limit. What stands there without `at least` is the number for
+/// every greater limit too
 /// ([`greatest_below_the_limit`](cn_choice::laws::greatest_below_the_limit)). As JSON they are a
 /// line with one object ([`classification_json`]), and in Markdown a row below the head of
 /// [`head_report`].

@@ -1,9 +1,9 @@
 -- A type is n-discerning for every n exactly where some operations last.
-use Rattle.std.proofs.Common.{◌-◌, ◌≡◌, ◌≢◌, ℕ, zero, suc, ◌+◌, ◌*◌, ◌<◌, ◌≤◌, ◌⊎◌, inl, inr, List, ◌∷◌, ◌++◌, length, refl, sym, ap, ◌∙◌, subst, arith, Bool, true, false, nat_eq, true≢false}
+use Rattle.std.proofs.Common.{◌≡◌, ◌≢◌, ℕ, zero, suc, ◌+◌, ◌*◌, ◌<◌, ◌≤◌, ◌⊎◌, inl, inr, List, ◌∷◌, ◌++◌, length, refl, sym, ap, ◌∙◌, subst, arith, Bool, true, false, nat_eq, true≢false}
 use Rattle.std.specs.Prelude.{replicate}
 use Rattle.std.proofs.lemmas.Bool.{eqb-true, eq-eqb, ne_eqb}
 use Rattle.cn_outcomes.proofs.Packing.{below_or_last}
-use Rattle.cn_table.specs.TypeTable.{IsTypeTable, TypeTable}
+use Rattle.cn_table.specs.TypeTable.{TypeTable}
 use Rattle.cn_choice.specs.Discerning.{IsDiscerning}
 use Rattle.cn_stocks.specs.Splits.{AreJoined, StockSplits}
 use Rattle.cn_stocks.specs.Words.{IsKnown, IsWithin, Shows, times}
@@ -12,7 +12,6 @@ use Rattle.cn_stocks.proofs.Times.{one_some, same_or, times_at}
 use Rattle.cn_stocks.proofs.Witnesses.{to_splits, to_witness}
 use Rattle.cn_stocks.specs.Lasting.{NoneLast, EndsAt, IsAlwaysDiscerning, Lasts, single_and}
 use Rattle.cn_stocks.proofs.LastingLemmas.Forms.{joined, not_joined}
-use Rattle.cn_stocks.proofs.LastingLemmas.Soon.{ends_soon}
 use Rattle.cn_stocks.proofs.LastingLemmas.Counts.{length_same, stands_often, times_other, times_same, times_stock, within_more, within_stock}
 
 -- ---- from operations that last
@@ -141,14 +140,3 @@ module _ (t : TypeTable) (all : NoneLast t) where
             let s = to_splits t n (omega arith) d in
             no_splits t s.0 k.0 s.2.0 s.2.1 (omega (arith, s.2.2)) (λ many lo single lp d. ends_later t s.0 many single k.0 (k.0 + 1) (omega arith) (k.1 s.0 s.1 many lo single lp d)) s.2.3,
       )
-
-  pub not_always : ¬ IsAlwaysDiscerning t
-  not_always d = let r = never in r.2 (d r.0 r.1)
-
--- for a table it is enough to look at as many processes as that
-pub never_from : (t : TypeTable) → IsTypeTable t → NoneLast t → (n : ℕ) → 3 ≤ n → length t.operations * (length t.states - 1) < n → ¬ IsDiscerning t n
-never_from t valid all n some enough d =
-    let s = to_splits t n some d in
-    let states = length t.states in
-    no_splits t s.0 (states - 1) s.2.0 s.2.1 (omega (arith, s.2.2, enough))
-    (λ many lo single lp d. ends_later t s.0 many single states (states - 1 + 1) (omega arith) (ends_soon t valid s.0 many single s.1 lo lp d (all s.0 s.1 many lo single lp d))) s.2.3

@@ -1,9 +1,8 @@
 -- A stock of more operations than there are states does not split where no operations last.
 use Rattle.std.proofs.Common.{◌≡◌, ◌≢◌, ℕ, zero, suc, ◌+◌, ◌<◌, ◌≤◌, ◌⊎◌, inl, inr, List, [], ◌∷◌, ◌++◌, length, get_or, refl, sym, ap, ◌∙◌, subst, arith, Bool, true, false, not, true≢false}
 use Rattle.std.specs.Prelude.{replicate}
-use Rattle.cn_table.specs.TypeTable.{IsTypeTable, TypeTable, transition}
+use Rattle.cn_table.specs.TypeTable.{IsClosed, TypeTable, transition}
 use Rattle.cn_table.specs.Run.{state_after}
-use Rattle.cn_table.proofs.ReachLemmas.{next_below}
 use Rattle.cn_outcomes.proofs.LastProcess.{state_last}
 use Rattle.cn_stocks.specs.Splits.{StockSplits}
 use Rattle.cn_stocks.specs.Words.{IsKnown, Shows, times}
@@ -76,7 +75,7 @@ record Reached (t : TypeTable) (start : ℕ) (stock : List ℕ) (chosen : ℕ �
   within : (o : ℕ) → times o (first ∷ rest) + (times o pool + times o further) ≤ times o stock
   ends : state_after t start (first ∷ rest) ≡ state
 
-module _ (t : TypeTable) (valid : IsTypeTable t) (start : ℕ) (start_known : start < length t.states) (stock : List ℕ) (known : IsKnown (length t.operations) stock)
+module _ (t : TypeTable) (closed : IsClosed t) (start : ℕ) (start_known : start < length t.states) (stock : List ℕ) (known : IsKnown (length t.operations) stock)
     (s : StockSplits t start stock) where
   abbrev next : ℕ → ℕ → ℕ
   next z q = (transition t z q).1
@@ -188,7 +187,7 @@ module _ (t : TypeTable) (valid : IsTypeTable t) (start : ℕ) (start_known : st
           let h = g.own q i in
           let z_known = known_in z pool (λ o. omega (arith, g.room h.0 o)) some in
           grow fuel r.0 (next z q ∷ states) (omega (arith, l))
-          (add pool r.0 states (next z q) g new (next_below t z q valid z_known (g.below q i))
+          (add pool r.0 states (next z q) g new (closed z q z_known (g.below q i))
           (h.0, after h.0 (further h.0) pool q z r.0 (further h.0) h.1 (λ o. omega (arith, r.1 o))) fewer (omega (arith, r.2)))
           (λ o. omega (arith, fewer o, up o)) (λ less more g2 f inc c. k less more g2 (λ o. omega (arith, f o, fewer o)) (λ x j. inc x (inr j)) c);
       begins = λ z some new.
@@ -197,7 +196,7 @@ module _ (t : TypeTable) (valid : IsTypeTable t) (start : ℕ) (start_known : st
           let b = s.chosen z in
           let z_known = known_in z pool (λ o. omega (arith, g.room b o)) some in
           grow fuel r.0 (next z start ∷ states) (omega (arith, l))
-          (add pool r.0 states (next z start) g new (next_below t z start valid z_known start_known) (b, begin z (further b) r.0 (λ o. omega (arith, r.1 o, g.room b o))) fewer (omega (arith, r.2)))
+          (add pool r.0 states (next z start) g new (closed z start z_known start_known) (b, begin z (further b) r.0 (λ o. omega (arith, r.1 o, g.room b o))) fewer (omega (arith, r.2)))
           (λ o. omega (arith, fewer o, up o)) (λ less more g2 f inc c. k less more g2 (λ o. omega (arith, f o, fewer o)) (λ x j. inc x (inr j)) c);
       frees = λ q f new.
           grow fuel pool (q ∷ states) (omega (arith, l)) (add pool pool states q g new (free_known q f) (free_own q f pool up) (λ o. omega arith) (omega arith)) up
@@ -270,7 +269,7 @@ module _ (t : TypeTable) (valid : IsTypeTable t) (start : ℕ) (start_known : st
   module _ (pool1 states1 : List ℕ) (g1 : Grown (length t.states + 1) aside pool1 states1) (c1 : Closed (λ _. ⊥) pool1 states1)
       (has : (b : Bool) → In (next (star b) start) states1) (all : NoneLast t) where
     led_known : (q : ℕ) → Led pool1 states1 q → q < length t.states
-    led_known q f = subst (λ (x : ℕ). x < length t.states) f.4 (next_below t (star (not f.0)) f.1 valid (known (star (not f.0)) (star_in (not f.0))) (g1.below f.1 f.2))
+    led_known q f = subst (λ (x : ℕ). x < length t.states) f.4 (closed (star (not f.0)) f.1 (known (star (not f.0)) (star_in (not f.0))) (g1.below f.1 f.2))
 
     led_to : (b : Bool) (r : ℕ) (pool : List ℕ) → ((o : ℕ) → times o pool ≤ times o pool1) → Reached t start stock s.chosen b (aside b) pool1 r → To b [] pool (next (star (not b)) r)
     led_to b r pool up h = after b (aside b) pool1 r (star (not b)) pool [] h (λ o. omega (arith, up o, times_cons o (star (not b)) [], times_none o))
@@ -442,7 +441,7 @@ module _ (t : TypeTable) (valid : IsTypeTable t) (start : ℕ) (start_known : st
     }
       where
         below_at : (b : Bool) → next (star b) start < length t.states
-        below_at b = next_below t (star b) start valid (known (star b) (star_in b)) start_known
+        below_at b = closed (star b) start (known (star b) (star_in b)) start_known
 
     pub too_long : ⊥
     too_long =

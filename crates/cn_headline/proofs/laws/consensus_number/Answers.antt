@@ -8,12 +8,11 @@ returns g c =
     let closed = c.tables_are_closed.ensures in
     let number = c.number_is_the_consensus_number.ensures in
     let enough = c.witness_is_enough.ensures in
-    let needs = c.consensus_needs_a_witness.ensures in
     record {
       finding = λ t limit f table two is.
-          tells_up_to closed number.found number.none number.at_least enough needs t limit f.number table two is.number;
-      number = tells closed number.found number.none number.at_least enough needs;
+          tells_up_to closed number.found number.none number.at_least enough t limit f.number table two is.number;
+      number = tells closed number.found number.none number.at_least enough;
       line = λ bytes t limit line words read is e.
-          words_tell closed number.found number.none number.at_least enough needs t limit words
+          words_tell closed number.found number.none number.at_least enough t limit words
           (spelled bytes t (read_whole bytes t read)) is.in_range (line_has t limit line words is e);
     }

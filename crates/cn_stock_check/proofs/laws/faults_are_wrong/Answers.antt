@@ -1,4 +1,4 @@
-use Rattle.cn_stock_check.proofs.FaultLemmas.{wrong}
+use Rattle.cn_stock_check.proofs.Firsts.{wrong}
 use Rattle.cn_stock_check.proofs.laws.faults_are_wrong.Goals as goal
 
 pub returns : goal.returns

@@ -2,7 +2,7 @@ use Rattle.std.proofs.Common.{rules, ◌≡◌, ◌≢◌, ◌⊎◌, inl, inr}
 use Rattle.std.specs.Prelude.{IfErr, OnOk}
 use Rattle.std.proofs.lemmas.Result.{IfErr-weaker, IfOk-weaker}
 use Rattle.cn_stock_cert.specs.Right.{AreBounds, AreInRange, ShowsAtLeast, ShowsAtMost}
-use Rattle.cn_stock_check.proofs.FaultLemmas.{first_range, first_type, most_right}
+use Rattle.cn_stock_check.proofs.Firsts.{first_range, first_type, most_right}
 use Rattle.cn_stock_check.specs.MostFaults.{IsFirstMostFault}
 use Rattle.cn_stock_check.specs.declared.fault.StockCheckFault.TheVariants.{OutOfMemory}
 use Rattle.cn_stock_check.proofs.verdict.check_stocks.Goals as goal

@@ -1,12 +1,12 @@
-use Rattle.std.proofs.Common.{◌≡◌, ℕ, Bool, List, All, inl, inr, ap, arith, length, get_or, refl, subst, sym, ◌∙◌, true, false, true≢false}
+use Rattle.std.proofs.Common.{◌≡◌, ℕ, List, All, inl, inr, ap, arith, length, get_or, refl, subst, sym, ◌∙◌, true≢false}
 use Rattle.std.specs.Prelude.{IsBitSet, slice_index}
 use Rattle.cn_choice.specs.Discerning.{IsDiscerning}
 use Rattle.cn_outcomes.proofs.LastProcess.{zero_has_none}
 use Rattle.cn_stocks.proofs.SplitLemmas.{uncovered}
 use Rattle.cn_stocks.proofs.Times.{times_of_place}
-use Rattle.cn_joins.specs.Joins.{Join, KeepsApart, beginning}
+use Rattle.cn_joins.specs.Joins.{Join, beginning}
 use Rattle.cn_stock_find.specs.Crossing.{IsCrossing}
-use Rattle.cn_stock_find.specs.Reached.{AreReached, Covers, IsJoinFrom}
+use Rattle.cn_stock_find.specs.Reached.{AreReached, IsJoinFrom}
 use Rattle.cn_stock_find.proofs.CrossingLemmas.{none_match}
 use Rattle.cn_stock_find.proofs.ReachLemmas.{all_more, all_reached, greater_set, more_one, more_trans, none_more, reached_across}
 use Rattle.cn_stock_find.proofs.connect.connect.Goals as goal

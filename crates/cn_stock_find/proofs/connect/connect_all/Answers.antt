@@ -1,4 +1,4 @@
-use Rattle.std.proofs.Common.{◌≡◌, ℕ, List, Some, ap, arith, length, subst, sym, ◌∙◌, true, false, true≢false}
+use Rattle.std.proofs.Common.{◌≡◌, ℕ, List, Some, ap, arith, length, subst, sym, ◌∙◌, true≢false}
 use Rattle.std.specs.Prelude.{slice_get}
 use Rattle.cn_choice.specs.Discerning.{IsDiscerning}
 use Rattle.cn_collisions.specs.Levels.{AreSetsFor}

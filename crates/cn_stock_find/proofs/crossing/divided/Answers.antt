@@ -1,5 +1,4 @@
-use Rattle.std.proofs.Common.{◌≡◌, ◌++◌, ◌∷◌, [], ◌+◌, ℕ, List, ap, arith, get_or, length, refl, subst, sym, take, true≢false, ◌∙◌}
-use Rattle.std.specs.Prelude.{IsBitSet}
+use Rattle.std.proofs.Common.{◌++◌, ◌∷◌, [], ◌+◌, ℕ, List, ap, arith, get_or, refl, subst, sym, take, true≢false, ◌∙◌}
 use Rattle.std.proofs.lemmas.List.{take_all, take_more}
 use Rattle.arrayvec.specs.ArrayVec.{ArrayVec}
 use Rattle.cn_stocks.proofs.Times.{times_of_place}

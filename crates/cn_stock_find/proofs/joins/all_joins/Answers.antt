@@ -1,5 +1,5 @@
-use Rattle.std.proofs.Common.{◌++◌, ◌+◌, ◌<◌, ℕ, List, All, arith, subst, sym}
-use Rattle.std.proofs.lemmas.List.Elements.{All-append, All-nil, All-weaker}
+use Rattle.std.proofs.Common.{◌+◌, ◌<◌, ℕ, List, All, arith, subst, sym}
+use Rattle.std.proofs.lemmas.List.Elements.{All-append, All-weaker}
 use Rattle.cn_joins.specs.Joins.{IsJoin, Join}
 use Rattle.cn_stock_find.specs.Reached.{ConnectFrom, IsJoinFrom}
 use Rattle.cn_stock_find.proofs.LevelLemmas.{starts_next}

@@ -1,4 +1,4 @@
-use Rattle.std.proofs.Common.{All, arith, sym, subst}
+use Rattle.std.proofs.Common.{arith, sym, subst}
 use Rattle.std.proofs.lemmas.List.Elements.{All-get_or}
 use Rattle.cn_stock_find.specs.Levels.{IsLevel}
 use Rattle.cn_stock_find.proofs.ReachLemmas.{all_more}

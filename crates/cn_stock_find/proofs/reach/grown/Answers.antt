@@ -1,5 +1,4 @@
-use Rattle.std.proofs.Common.{ℕ, Bool, arith, get_or}
-use Rattle.std.proofs.lemmas.List.Elements.{Contains-from_at, Contains-get_or}
+use Rattle.std.proofs.Common.{arith}
 use Rattle.cn_stock_find.proofs.ReachLemmas.{read_contained}
 use Rattle.cn_stock_find.proofs.reach.grown.Goals as goal
 

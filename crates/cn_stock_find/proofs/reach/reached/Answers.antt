@@ -1,4 +1,4 @@
-use Rattle.std.proofs.Common.{ℕ, arith}
+use Rattle.std.proofs.Common.{arith}
 use Rattle.cn_stocks.proofs.SplitLemmas.{subset_above}
 use Rattle.cn_stock_find.proofs.reach.reached.Goals as goal
 

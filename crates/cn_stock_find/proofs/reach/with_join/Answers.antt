@@ -1,4 +1,4 @@
-use Rattle.std.proofs.Common.{◌≡◌, ℕ, Bool, ap, arith, get_or, subst, sym, ◌∙◌}
+use Rattle.std.proofs.Common.{◌≡◌, ap, arith, get_or, sym, ◌∙◌}
 use Rattle.cn_stocks.proofs.Times.{times_of_place}
 use Rattle.cn_joins.specs.Joins.{Join, beginning}
 use Rattle.cn_stock_find.proofs.reach.with_join.Goals as goal

@@ -50,6 +50,22 @@ returns-in-CheckShortest g c =
       },
     )
 
+pub returns-in-CheckStocks : goal.returns-in-CheckStocks
+returns-in-CheckStocks g c =
+    let given : Some c.in-CheckStocks.certificate ≡ Some c.args.source = ap certificate_of (sym c.in-CheckStocks.is) ∙ c.requires.command in
+    let same : c.in-CheckStocks.certificate ≡ c.args.source = cc in
+    rw c.in-CheckStocks.is (
+      c.text_of-certificate.result,
+      rw same c.text_of-certificate.ensures,
+      record {
+        table_after = c.check_stocks-end.new.table;
+        certificate_after = c.check_stocks-end.new.certificate;
+        read = c.check_stocks-end.ensures.read;
+        order = inr tt;
+        reported = rw c.noting_table-in-CheckStocks.ensures c.check_stocks-end.ensures.checked;
+      },
+    )
+
 pub returns-in-Explain : goal.returns-in-Explain
 returns-in-Explain g c =
     let given : Some c.in-Explain.certificate ≡ Some c.args.source = ap certificate_of (sym c.in-Explain.is) ∙ c.requires.command in

@@ -21,6 +21,13 @@ returns-in-FindShortest g c = λ stdin. rw c.in-FindShortest.is (record {
   reported = c.find_shortest.ensures.found;
 })
 
+pub returns-in-FindStocks : goal.returns-in-FindStocks
+returns-in-FindStocks g c = λ stdin. rw c.in-FindStocks.is (record {
+  after = c.find_stocks.new.table;
+  read = c.find_stocks.ensures.read;
+  reported = c.find_stocks.ensures.found;
+})
+
 pub returns-in-Lint : goal.returns-in-Lint
 returns-in-Lint g c = λ stdin. rw c.in-Lint.is (record {
   after = c.lint.new.table;

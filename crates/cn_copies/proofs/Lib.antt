@@ -1,0 +1,5 @@
+pub mod Carrying
+pub mod Picked
+pub mod Deciding
+pub mod CopyLemmas
+pub mod FirstLemmas

@@ -1,0 +1,6 @@
+pub mod ArrayLemmas
+pub mod CandidateLemmas
+pub mod CellLemmas
+pub mod JoinLemmas
+pub mod LevelLemmas
+pub mod TellLemmas
