@@ -5,7 +5,7 @@ _cnum() {
     COMPREPLY=()
     case ${COMP_WORDS[1]} in
     find)
-        options='--limit --without-read --shortest --processes --table -h --help' arguments='FILE'
+        options='--limit --stocks --without-read --shortest --processes --table -h --help' arguments='FILE'
         [[ $previous == --limit ]] && values='2 3 4 5 6 7 8'
         [[ $previous == --processes ]] && values='2 3 4 5 6 7 8'
         ;;
@@ -19,7 +19,7 @@ _cnum() {
         [[ $previous == --as ]] && values='text json'
         ;;
     check)
-        options='--without-read --shortest --as --table -h --help' arguments='CERT FILE'
+        options='--stocks --without-read --shortest --as --table -h --help' arguments='CERT FILE'
         [[ $previous == --as ]] && values='text json'
         ;;
     explain)

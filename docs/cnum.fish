@@ -55,6 +55,7 @@ complete -c cnum -n '__cnum_is' -a replay -d 'Serves an object by a list of even
 complete -c cnum -n '__cnum_is' -a serve -d 'Serves an object by threads that make calls, with a certificate\'s witness'
 complete -c cnum -n '__cnum_is' -a help -d 'Print this message or the help of the given subcommand(s)'
 complete -c cnum -n '__cnum_is find' -l limit -x -a '2 3 4 5 6 7 8' -d 'The greatest number looked for, from 2 to 8'
+complete -c cnum -n '__cnum_is find' -l stocks -d 'Writes a certificate by stocks, which is shorter, for every type'
 complete -c cnum -n '__cnum_is find' -l without-read -d 'Writes a certificate of the number without reads, with no limit'
 complete -c cnum -n '__cnum_is find' -l shortest -d 'Writes a certificate of the shortest plan, with no limit'
 complete -c cnum -n '__cnum_is find' -l processes -x -a '2 3 4 5 6 7 8' -d 'How many processes there are, from 2 to 8, where there is no certificate'
@@ -71,6 +72,7 @@ complete -c cnum -n '__cnum_is lint' -l as -x -a 'text json' -d 'The form in whi
 complete -c cnum -n '__cnum_is lint' -l table -r -F -d 'The file that holds the type table, in place of standard input'
 complete -c cnum -n '__cnum_is lint' -s h -l help -d 'Print help'
 complete -c cnum -n '__cnum_at lint 1' -F
+complete -c cnum -n '__cnum_is check' -l stocks -d 'Checks a certificate by stocks'
 complete -c cnum -n '__cnum_is check' -l without-read -d 'Checks a certificate of the number without reads'
 complete -c cnum -n '__cnum_is check' -l shortest -d 'Checks a certificate of a plan, and tells how short the plan is'
 complete -c cnum -n '__cnum_is check' -l as -x -a 'text json' -d 'The form in which the answer is written'

@@ -130,8 +130,7 @@ def up_to(certificate):
 
 def with_no_limit(words):
     """The number that these words tell."""
-    ends = words.split(" to ")
-    return {"from": int(ends[0]), "to": int(ends[1])} if len(ends) == 2 else "infinite" if words == "infinite" else int(words)
+    return "infinite" if words == "infinite" else int(words)
 
 
 def explanation(table, certificate, words, told_all, sides, shortest):

@@ -2,7 +2,7 @@
 from calls import TOP
 from table import table_text
 
-# States and copies of an operation. With 7, 6 and 5 copies numbers from 9, 10 and 13 on are ranges, if there are more states.
+# States and copies of an operation.
 COPIES = [(3, 2), (4, 2), (16, 4), (13, 5), (14, 5), (16, 5), (10, 6), (11, 6), (16, 6), (8, 7), (9, 7), (10, 7), (16, 7)]
 
 

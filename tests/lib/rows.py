@@ -14,7 +14,8 @@ A file holds tables. Each is one command with its rows:
   prints    what the program prints beside a refusal
   tells     what it tells on standard error, if that is more than one refusal, or another text
   status    the exit status; 0 if it is left out
-  judged    true if `check` has to say `ok` to what is printed; the column NUMBER has its number, `none` for null
+  judged    true if `check` has to say `ok` to what is printed; the column NUMBER has its number, `none` for null. `--stocks` if
+            `check --stocks` has to; NUMBER has its bounds, as `2 to none`
   columns   the names of the columns, in capitals; left out, with the rows, if there is one row and the keys say it all
   rows      the rows
 
@@ -112,11 +113,14 @@ class Row:
         ended = ran(self.words(), stdin, files, self.table.get("output"), self.table.get("memory"), program)
         if not self.table.get("judged"):
             return ended
+        by_stocks = self.table["judged"] == "--stocks"
         try:
-            number = json.loads(ended[0])["number"] or "none"
+            value = json.loads(ended[0])
+            number = f"{value['at_least'] or 'none'} to {value['at_most'] or 'none'}" if by_stocks else value["number"] or "none"
         except ValueError:
             return ended
-        return number, ran(["check", "certificate"], stdin, {"certificate": ended[0]}, program=program)
+        words = ["check", *(["--stocks"] if by_stocks else []), "certificate"]
+        return number, ran(words, stdin, {"certificate": ended[0]}, program=program)
 
 
 def ran(words, stdin, files, output=None, memory=None, program=None):

@@ -65,7 +65,7 @@ class Jobs:
             for words in (["lint"], ["lint", "--as", "json"], ["find", "--limit", "3"], ["draw"], ["classify", "--limit", "3", "-"]):
                 self.run(words, table)
         for certificate in hostile_certificates():
-            as_forms = (["check", "--as", "json", "C"], ["show", "--as", "promela", "C"])
+            as_forms = (["check", "--as", "json", "C"], ["check", "--stocks", "C"], ["show", "--as", "promela", "C"])
             for words in (["check", "C"], ["explain", "C"], ["show", "C"], *as_forms, ["agree", "C", "1,2", "0,1,0,1"]):
                 self.run(words, BIT, C=certificate)
         for name, n in PLANS:
@@ -108,6 +108,11 @@ class Jobs:
                 self.run(["check", "--shortest", "--as", "json", "C"], table, C=shortest)
             self.run(["agree", "--shortest", "--processes", n, "--steps", "-", inputs, "1,1,0,0,0,1,0,1,0,1"], table)
         self.run(["classify", "--limit", "3", "T", "-", "T"], table, T=table)
+        for limit in ([], ["--limit", "3"]):
+            by_stocks = self.run(["find", "--stocks", *limit], table)
+            if 0 < len(by_stocks) < MOST_CERTIFICATE:
+                self.run(["check", "--stocks", "--as", "json", "C"], table, C=by_stocks)
+                self.run(["check", "--stocks", "C"], table, C=by_stocks.replace(b'"at_most":2', b'"at_most":1'))
         unread = self.run(["find", "--without-read"], table)
         if 0 < len(unread) < MOST_CERTIFICATE:
             self.run(["check", "--without-read", "C"], table, C=unread)
@@ -141,6 +146,7 @@ class Jobs:
         refused = [["find", "--limit", "9"], ["find", "--limit", "0"], ["find", "--limit", "x"], ["find"], ["nosuch"], [], ["lint", "extra"]]
         refused += [["check", "missing"], ["check", "constructor"], ["show", "--as", "x", "C"], ["lint", "\xe4"], ["why", "--recoverable", "--limit", "3", "-"]]
         refused += [["classify", "--without-read", "--limit", "3", "-"], ["why", "--without-read", "--recoverable", "-"], ["find", "--without-read", "--limit", "3"]]
+        refused += [["find", "--stocks", "--without-read"], ["find", "--stocks", "--limit", "9"], ["check", "--stocks", "--shortest", "C"]]
         refused += [["show"], ["show", "--shortest", "C", "-"], ["agree", "--shortest", "--recoverable", "-", "1,2", "0"], ["agree", "--without-read", "--recoverable", "-", "1,2", "0"]]
         for words in [*refused, ["--help"], ["-h"], ["--version"], ["help"], *([it, "--help"] for it in COMMANDS)]:
             self.run(words, BIT)

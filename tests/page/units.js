@@ -587,8 +587,8 @@ describe('the search over examples', () => {
     it('finds those of a number', () => assert.deepEqual(names('bit', path => path === 'types/sticky_bit'), ['sticky_bit']));
 
     it('orders the numbers', () => {
-        const kinds = Cnum.kindsOf([2, 'infinite', { from: 9, to: 16 }, 10, 2]);
-        assert.deepEqual(kinds, ['2', '9 to 16', '10', 'infinite']);
+        const kinds = Cnum.kindsOf([2, 'infinite', 16, 10, 2]);
+        assert.deepEqual(kinds, ['2', '10', '16', 'infinite']);
     });
 
     it('tells both numbers of an example, if they are two', () => {
@@ -713,11 +713,11 @@ describe('answers', () => {
     it('stand one in a line', () => assert.deepEqual(Cnum.valuesOf('{"a":1}\n{"a":2}\n'), [{ a: 1 }, { a: 2 }]));
 
     it('have numbers in words', () => {
-        const numbers = [3, 'infinite', { from: 9, to: 12 }, { at_least: 5 }, { at_least: 1, at_most: 2 }];
-        const texts = ['3', 'infinite', '9 to 12', 'at least 5, no upper bound found', 'at least 1, at most 2, not decided'];
+        const numbers = [3, 'infinite', 16, { at_least: 5 }, { at_least: 1, at_most: 2 }];
+        const texts = ['3', 'infinite', '16', 'at least 5, no upper bound found', 'at least 1, at most 2, not decided'];
         assert.deepEqual(numbers.map(Cnum.numberText), texts);
-        assert.deepEqual(numbers.map(Cnum.leastOf), [3, Infinity, 9, 5, 1]);
-        assert.deepEqual(numbers.map(Cnum.mostOf), [3, Infinity, 12, Infinity, 2]);
+        assert.deepEqual(numbers.map(Cnum.leastOf), [3, Infinity, 16, 5, 1]);
+        assert.deepEqual(numbers.map(Cnum.mostOf), [3, Infinity, 16, Infinity, 2]);
     });
 
     const ALONE = 'By the operations of the table alone, ';
@@ -725,7 +725,7 @@ describe('answers', () => {
         [1, 'one process alone decides, and no protocol lets 2 agree.'],
         [2, '2 processes can agree, and no protocol lets 3 agree.'],
         ['infinite', 'any number of processes can agree.'],
-        [{ from: 9, to: 12 }, '9 processes can agree, and no protocol lets 13 agree; to tell which of these the number is would take too long.'],
+        [16, '16 processes can agree, and no protocol lets 17 agree.'],
         [{ at_least: 2, at_most: 4 }, '2 processes can agree, and no protocol lets 5 agree; what lies between is not decided.'],
         [{ at_least: 1, at_most: 2 }, 'no protocol lets 3 agree; whether fewer can agree is not decided.'],
         [{ at_least: 5 }, '5 processes can agree; whether more can is not decided.'],
@@ -747,6 +747,7 @@ describe('answers', () => {
         ['cnum: table: 8 RowLength', 'A row does not have one entry for each state.'],
         ['cnum: check: 6 NotNext 8', 'Its collision 8 is not for the choice whose turn it is.'],
         ['cnum: check: 4 Meets 1 0', 'At node 1 of its plan some process can get the same, whichever team was first.'],
+        ['cnum: check: 8 NotAJoin 3', 'Its join 3 is none: the two runs do not show one operation the same.'],
         ['cnum: check: 4 WitnessMeets 0', 'Its witness is none: process 0 can get the same response and read the same state after either team was first.'],
         ['cnum: certificate: too long', 'It is longer than any certificate.'],
         ['cnum: certificate: no witness', 'It has no witness: one process alone has nobody to agree with.'],
@@ -761,9 +762,13 @@ describe('answers', () => {
     it('tell a fault that is a value', () => {
         const told = Cnum.inWords({ status: 1, stderr: 'cnum: check: 7 NotACollision 3\n' }, { entry: 3, name: 'NotACollision', number: 7 });
         assert.equal(told, 'Its collision 3 is none. (cnum: check: 7 NotACollision 3)');
+        const line = 'cnum: check: 9 NoticesItself 0';
+        const noticed = Cnum.inWords({ status: 1, stderr: `${line}\n` }, { name: 'NoticesItself', number: 9, operation: 0 });
+        assert.equal(noticed, `Its upper bound is 1, but operation 0 gets another response when it is done a second time. (${line})`);
     });
 
     it('choose the check of a certificate by its version', () => {
+        assert.deepEqual(Cnum.wordsOfCheck('{"version":3}'), ['check', '--stocks']);
         assert.deepEqual(Cnum.wordsOfCheck('{"version":4}'), ['check', '--without-read']);
         assert.deepEqual(Cnum.wordsOfCheck('{"version":5}'), ['check', '--shortest']);
         for (const text of ['{"version":2}', '4', '{', 'null']) assert.deepEqual(Cnum.wordsOfCheck(text), ['check']);
@@ -913,7 +918,7 @@ describe('an explanation', () => {
     });
 
     it('of a number beyond the limit tells no ways', () => {
-        const text = shown({ ...INFINITE, lasting: null, number: { from: 9, to: 16 } });
+        const text = shown({ ...INFINITE, lasting: null, number: 16 });
         has(text, 'The ways for 17 processes are not listed here.', 'No protocol at all does it for 17');
         assert.ok(!text.includes('Why not'));
     });

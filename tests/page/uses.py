@@ -352,7 +352,7 @@ def names_in(note):
 
 
 def meanings(use):
-    """What the page says of both numbers: of a number, of no greatest number, of a range, and of what is not decided."""
+    """What the page says of both numbers: of a number, of no greatest number, and of what is not decided."""
     use.open()
     for name, number, without, *told in (
         ("idle", "1", "1", "one process alone decides,", "no protocol lets 2 agree."),
@@ -361,7 +361,8 @@ def meanings(use):
         ("queue_2", "infinite", "2", "any number of processes can agree"),
         ("inc_dec_9", "9", "9", "9 processes can agree", "no protocol lets 10 agree."),
         ("memory_swap_own_8", "8", "1", "8 processes can agree", "no protocol lets 9 agree."),
-        ("inc_dec_copies_16_8", "9 to 16", "at least 9, at most 16, not decided", "9 processes can agree", "no protocol lets 17 agree", "would take too long."),
+        ("inc_dec_copies_16_8", "16", "16", "16 processes can agree", "no protocol lets 17 agree."),
+        ("climbed_16_5", "6", "at least 5, at most 6, not decided", "6 processes can agree", "no protocol lets 7 agree."),
     ):
         use.give(TYPES[name] if name in TYPES else (TOP / f"catalogue/{name}.toml").read_text())
         said = use.text("meaning")
@@ -1208,6 +1209,7 @@ def certificates(use):
     use.open()
     whole = called(["find"], TYPES["test_and_set"])[0].decode()
     unread = '{"at_least":2,"at_most":null,"least":{"visible":[0,[0],[0]]},"most":null,"type":"test_and_set","version":4}'
+    stocks = '{"at_least":2,"at_most":2,"least":{"witness":[0,[0],[0]]},"most":[[0,[0],0,[0],0]],"type":"test_and_set","version":3}'
     yield "the certificate is the program's", use.value("Cnum.page.certificate") == whole, ""
     drop = """((name, text) => {
         const dataTransfer = new DataTransfer();
@@ -1220,6 +1222,8 @@ def certificates(use):
         (whole.replace("test_and_set", "idle"), "claim.json is refused. It is a certificate of another type"),
         (whole.replace("[0,1],[2,1]", "[0,1],[1,2]"), "claim.json is refused. Its collision 0 is none. (cnum: check: 7 NotACollision 0)"),
         (unread, "claim.json is right: it is a certificate of this table."),
+        (stocks, "claim.json is right: it is a certificate of this table."),
+        (stocks.replace("0],0,", "0],1,"), "claim.json is refused. Its join 0 is none: the two runs do not show one operation the same. (cnum: check: 8 NotAJoin 0)"),
         (unread.replace(":2", ":3"), "claim.json is refused. Its evidence does not show that so many processes can agree. (cnum: check: 3 Least)"),
         ("{" * 16777217, "claim.json is refused. It is longer than any certificate. (cnum: certificate: too long)"),
         ("{", "claim.json is refused. It is no JSON, and so no certificate. (cnum: certificate: 1 NotJson)"),
