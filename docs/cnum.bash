@@ -23,11 +23,11 @@ _cnum() {
         [[ $previous == --as ]] && values='text json'
         ;;
     explain)
-        options='--all --as --table -h --help' arguments='CERT FILE'
+        options='--stocks --all --as --table -h --help' arguments='CERT FILE'
         [[ $previous == --as ]] && values='text json'
         ;;
     why)
-        options='--limit --recoverable --without-read --all --as -h --help' arguments='FILE'
+        options='--limit --stocks --recoverable --without-read --all --as -h --help' arguments='FILE'
         [[ $previous == --limit ]] && values='2 3 4 5 6 7 8'
         [[ $previous == --as ]] && values='text json markdown'
         ;;

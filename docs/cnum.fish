@@ -80,6 +80,7 @@ complete -c cnum -n '__cnum_is check' -l table -r -F -d 'The file that holds the
 complete -c cnum -n '__cnum_is check' -s h -l help -d 'Print help'
 complete -c cnum -n '__cnum_at check 1' -F
 complete -c cnum -n '__cnum_at check 2' -F
+complete -c cnum -n '__cnum_is explain' -l stocks -d 'Explains a certificate by stocks'
 complete -c cnum -n '__cnum_is explain' -l all -d 'Tells all choices that are refuted, not the first 12 alone'
 complete -c cnum -n '__cnum_is explain' -l as -x -a 'text json' -d 'The form in which the reasons are written'
 complete -c cnum -n '__cnum_is explain' -l table -r -F -d 'The file that holds the type table, in place of standard input'
@@ -87,6 +88,7 @@ complete -c cnum -n '__cnum_is explain' -s h -l help -d 'Print help'
 complete -c cnum -n '__cnum_at explain 1' -F
 complete -c cnum -n '__cnum_at explain 2' -F
 complete -c cnum -n '__cnum_is why' -l limit -x -a '2 3 4 5 6 7 8' -d 'The greatest number looked for, from 2 to 8'
+complete -c cnum -n '__cnum_is why' -l stocks -d 'Tells it by a certificate by stocks, for every type'
 complete -c cnum -n '__cnum_is why' -l recoverable -d 'Tells why the recoverable number is what it is, with no limit'
 complete -c cnum -n '__cnum_is why' -l without-read -d 'Tells why the number without reads is what it is, with no limit'
 complete -c cnum -n '__cnum_is why' -l all -d 'Tells all choices that are refuted, not the first 12 alone'

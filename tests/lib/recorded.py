@@ -149,7 +149,9 @@ class Explanation:
             return ["It is so for each number of processes: this is proved (docs/PROVED.md)."]
         proved = f"No protocol at all does it for {self.more}: this is proved (docs/PROVED.md)."
         if self.refuted is None:
-            return [f"Why not {self.more}: its ways are not listed here.", proved]
+            count = len(self.table.states)
+            why = f"it has {count} states and no two operations that last." if self.more > count else "its ways are not listed here."
+            return [f"Why not {self.more}: {why}", proved]
         count, (told, others) = len(self.refuted), self.told(tell_all)
         ways = "to choose a start state, operations and teams"
         counts = {0: f"no way {ways} is left.", 1: f"1 way {ways}; in it the state does not tell."}

@@ -17,6 +17,8 @@ from rows import rows
 
 LONGEST = 60
 MOST_CERTIFICATE = 2_000_000
+# Types with so many joins that a certificate by stocks takes more than a minute, unless it has a limit.
+MANY_JOINS = {"tests/types/climbed_16_8"}
 PATHS = [path for folder in ("types", "tests/types", "catalogue") for path in sorted((TOP / folder).glob("*.toml"))]
 TABLES = {str(path.relative_to(TOP).with_suffix("")): path.read_bytes() for path in PATHS}
 BIT, COUNTER = TABLES["types/test_and_set"], TABLES["types/counter_3"]
@@ -108,10 +110,12 @@ class Jobs:
                 self.run(["check", "--shortest", "--as", "json", "C"], table, C=shortest)
             self.run(["agree", "--shortest", "--processes", n, "--steps", "-", inputs, "1,1,0,0,0,1,0,1,0,1"], table)
         self.run(["classify", "--limit", "3", "T", "-", "T"], table, T=table)
-        for limit in ([], ["--limit", "3"]):
+        for limit in ([], ["--limit", "3"])[name in MANY_JOINS :]:
+            self.run(["why", "--stocks", *limit, "-"], table)
             by_stocks = self.run(["find", "--stocks", *limit], table)
             if 0 < len(by_stocks) < MOST_CERTIFICATE:
                 self.run(["check", "--stocks", "--as", "json", "C"], table, C=by_stocks)
+                self.run(["explain", "--stocks", "--all", "C"], table, C=by_stocks)
                 self.run(["check", "--stocks", "C"], table, C=by_stocks.replace(b'"at_most":2', b'"at_most":1'))
         unread = self.run(["find", "--without-read"], table)
         if 0 < len(unread) < MOST_CERTIFICATE:
@@ -147,6 +151,7 @@ class Jobs:
         refused += [["check", "missing"], ["check", "constructor"], ["show", "--as", "x", "C"], ["lint", "\xe4"], ["why", "--recoverable", "--limit", "3", "-"]]
         refused += [["classify", "--without-read", "--limit", "3", "-"], ["why", "--without-read", "--recoverable", "-"], ["find", "--without-read", "--limit", "3"]]
         refused += [["find", "--stocks", "--without-read"], ["find", "--stocks", "--limit", "9"], ["check", "--stocks", "--shortest", "C"]]
+        refused += [["explain", "--stocks", "--as", "json", "C"], ["why", "--stocks", "--recoverable", "-"]]
         refused += [["show"], ["show", "--shortest", "C", "-"], ["agree", "--shortest", "--recoverable", "-", "1,2", "0"], ["agree", "--without-read", "--recoverable", "-", "1,2", "0"]]
         for words in [*refused, ["--help"], ["-h"], ["--version"], ["help"], *([it, "--help"] for it in COMMANDS)]:
             self.run(words, BIT)

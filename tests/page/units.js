@@ -8,7 +8,7 @@ const vm = require('node:vm');
 const WEB = path.join(__dirname, '../../web');
 const PARTS = ['texts_en', 'texts_de', 'texts', 'elements', 'answers', 'plans', 'run', 'lives', 'link', 'table_text', 'table_edits', 'flaw_places', 'notes'];
 PARTS.push('past', 'example_search', 'comparison', 'schedules', 'space_time', 'tournament', 'dot', 'points', 'layout');
-PARTS.push('reason_parts', 'explanation', 'picture', 'two_runs', 'unread_explanation');
+PARTS.push('reason_parts', 'explanation', 'picture', 'two_runs', 'unread_explanation', 'stock_explanation');
 
 globalThis.Cnum = {};
 for (const part of ['examples', ...PARTS.map(it => `page/${it}`)]) {
@@ -1071,6 +1071,40 @@ describe('an explanation without reads', () => {
     });
 
     it('that the program does not give is none', () => assert.equal(shown(null), 'No reasons are shown for this number.'));
+});
+
+describe('the explanation of a certificate by stocks', () => {
+    const tableOf = path => Cnum.examples.flatMap(group => group.types).find(it => it.path === path).text;
+    const of = (least, most, by, joins) => ({ at_least: least, at_most: most, least: by, most: joins });
+
+    function shown(path, certificate, language = 'en') {
+        const made = shownIn(language, it => Cnum.showStockExplanation(it, certificate, tableOf(path), async () => ''));
+        return plain(made.textContent);
+    }
+
+    it('has a line for each join', () => {
+        const joins = [[0, [0], 0, [1, 0], 1], [1, [0, 1], 1, [1], 0]];
+        const register = of(1, 1, null, joins);
+        const told = shown('types/binary_register', register);
+        has(told, 'One process alone', 'Why not 2: 2 joins;', 'done twice in a row', 'whose runs 2 processes can do', 'for 2: this is proved.');
+        has(told, 'from zero: write0/ok and write1 write0/ok both leave zero: write0 and write1 are in one team');
+        has(told, 'from one: write0 write1/ok and write1/ok both leave one: write0 and write1 are in one team');
+        const german = shown('types/binary_register', register, 'de');
+        has(german, 'von one aus: write0 write1/ok und write1/ok enden beide in one: write0 und write1 sind in einem Team');
+        has(shown('types/binary_register', of(1, 2, null, joins.slice(1))), 'Why not 3: 1 join;', 'a third one sees the same');
+    });
+
+    it('has the witness, or the states of two operations that last', () => {
+        const witness = { witness: [0, [0], [0]] };
+        has(shown('types/test_and_set', of(2, 2, witness, [])), '2-discerning', 'It starts in zero; A: p0 does tas; B: p1 does tas', 'Why not 3: no join');
+        has(shown('types/test_and_set', of(2, null, witness, null)), 'whether more can is not decided', 'The certificate shows no upper bound.');
+        const sticky = of(null, null, { lasting: [0, 0, 1, [1, 0], [1], [2]] }, null);
+        const told = shown('types/sticky_bit', sticky);
+        has(told, 'one process does put1, and any number of others do put0', 'It is so for each number of processes', 'As the program prints it');
+        const cases = ['put1 first: the state is one of one', 'put1 not yet: the state is one of unset, zero', 'put1 behind put0: the state is one of zero'];
+        has(told, ...cases);
+        has(shown('types/sticky_bit', sticky, 'de'), 'put1 hinter put0: der Zustand ist einer von zero', 'Wie das Programm es ausgibt');
+    });
 });
 
 describe('the layout', () => {

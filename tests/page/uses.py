@@ -1236,6 +1236,15 @@ def certificates(use):
         yield "it is answered where one looks", seen, (box, use.text("notice-text"))
     use.value("document.getElementById('notice-close').click()")
     yield "the answer can be closed", use.is_hidden("notice"), ""
+    yield "a certificate that is no JSON is not explained", use.text("claim-told") == "", use.text("claim-told")
+    use.value(drop % f"'claim.json', {json.dumps(stocks)}")
+    line = "from zero: tas/zero and tas/zero both leave one: tas and tas are in one team"
+    well = use.until(f"document.getElementById('claim-told').textContent.includes({json.dumps(line)})", 10)
+    yield "a certificate by stocks is explained, a line for each join", well, use.text("claim-told")
+    use.value("(() => { document.querySelector('#claim-told details').open = true; })()")
+    use.until("document.querySelector('#claim-told details pre').textContent")
+    wanted = called(["explain", "--stocks", "--all", "-", "--table", str(TOP / "types/test_and_set.toml")], stocks.encode())[0].decode()
+    yield "it is explained as it is printed", use.texts("#claim-told details pre") == [wanted], use.texts("#claim-told details pre")
     for name in ("slot.toml", "SLOT.TOML", "slot.toml.txt"):
         use.choose("types/idle")
         use.value(drop % f"{json.dumps(name)}, {json.dumps(SLOT)}")

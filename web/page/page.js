@@ -12,6 +12,7 @@ var Cnum = globalThis.Cnum || {};
     const PROVED = /^(.*?), proved (by .*)\n$/;
     const { SHORTEST, CERTIFICATE, WITHOUT_READS: PLAN_WITHOUT_READS } = Cnum.plans.kinds;
     const WITHOUT_READS = '--without-read';
+    const BY_STOCKS = '--stocks';
     const MOST_PROCESSES = 8; // of a protocol
 
     const at = id => document.getElementById(id);
@@ -341,6 +342,7 @@ var Cnum = globalThis.Cnum || {};
             at('why').replaceChildren();
             this.picture.clear();
             at('claim-said').textContent = '';
+            at('claim-told').replaceChildren();
             at('claim-file').value = '';
             at('recoverable').textContent = at('come-back-said').textContent = at('plan-said').textContent = '';
             at('plan-part').hidden = true;
@@ -788,6 +790,14 @@ var Cnum = globalThis.Cnum || {};
             const told = ok ? say('certificate_ok', { name }) : say('certificate_wrong', { name, why: Cnum.inWords(answer, fault) });
             at('claim-said').textContent = told;
             this.notice(told);
+            at('claim-told').replaceChildren();
+            if (ok && words.includes(BY_STOCKS)) this.tellClaim(claim);
+        }
+
+        // Tells why a certificate by stocks that is right has its bounds. One of another kind tells of the number what why does.
+        tellClaim(claim) {
+            const printedClaim = async () => printed(await this.ask(this.quick, ['explain', BY_STOCKS, '--all', CERTIFICATE], { [CERTIFICATE]: claim }));
+            Cnum.showStockExplanation(at('claim-told'), JSON.parse(new TextDecoder().decode(claim)), this.table, printedClaim);
         }
 
         async begin() {

@@ -9,6 +9,7 @@ pub mod Classify
 pub mod ClassifyEach
 pub mod Draw
 pub mod Explain
+pub mod ExplainStocks
 pub mod Find
 pub mod FindShortest
 pub mod FindStocks
@@ -25,4 +26,5 @@ pub mod Show
 pub mod ShowShortest
 pub mod Why
 pub mod WhyRecoverable
+pub mod WhyStocks
 pub mod WhyUnread

@@ -13,6 +13,6 @@ pub use accepted::check_certificate;
 pub use checked::{Checked, read_checked};
 pub use opening::{OpeningArguments, read_opening};
 pub use plan_tree::{check_tree_certificate, read_tree_certificate};
-pub use stocks::{check_stock_certificate, read_stock_certificate};
+pub use stocks::{check_stock_certificate, read_right_stock_certificate, read_stock_certificate};
 pub use table::{read_certificate, read_object, read_table};
 pub use unread::{check_unread_certificate, read_unread_certificate};

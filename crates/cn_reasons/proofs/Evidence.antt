@@ -4,7 +4,6 @@ use Rattle.std.specs.Prelude.{nat_le, ◌&&◌}
 use Rattle.std.proofs.lemmas.List.{get_or_default}
 use Rattle.std.proofs.lemmas.List.Elements.{Contains-append_right}
 use Rattle.std.proofs.lemmas.Bool.{and_parts, leb-true}
-use Rattle.arrayvec.specs.ArrayVec.{ArrayVec}
 use Rattle.cn_table.specs.TypeTable.{TypeTable}
 use Rattle.cn_choice.specs.Canonical.{Choice, FitsTable, IsCanonical, canonical_choices, raw_choice_of}
 use Rattle.cn_choice.specs.GreatestNumbers.{PassesDown}
@@ -17,7 +16,6 @@ use Rattle.cn_search.specs.declared.exact.ConsensusNumber.{ConsensusNumber}
 use Rattle.cn_search.specs.declared.exact.ConsensusNumber.TheVariants.{Finite, Infinite}
 use Rattle.cn_check.proofs.WitnessLemmas.{fits_for}
 use Rattle.cn_recover.specs.Recording.{HasRecoverableNumber, IsRecording, IsRecordingWitness}
-use Rattle.cn_reasons.specs.AllOrders.{AreAllOrders}
 use Rattle.cn_reasons.specs.Recoverable.{witness_size}
 
 -- what passes down from a number holds for each number from 2 to it
@@ -37,12 +35,6 @@ limit_within states operations limit e = by_test (nat_le 2 limit && nat_le limit
     by_test false t f = absurd (cc f)
 
 module _ (t : TypeTable) where
-  -- all orders of n processes are those of a choice for n processes
-  pub orders_for : (n : ℕ) (c : Choice) (orders : List (ArrayVec ℕ)) → IsRawChoice t n (raw_choice_of c) → AreAllOrders n orders → AreAllOrders (length c.a + length c.b) orders
-  orders_for n c orders raw all =
-      let many : n ≡ length c.a + length c.b = sym raw.one_operation_each ∙ length-append c.a c.b in
-      subst (λ (k : ℕ). AreAllOrders k orders) many all
-
   module _ (live : (n : ℕ) (c : Choice) → Contains (live_choices t n) c ↔ (IsCanonical c × IsRawChoice t n (raw_choice_of c) × IsLive t (raw_choice_of c))) where
     -- a choice that is listed is one of the table
     pub listed_fits : (n : ℕ) (c : Choice) → n ≤ 8 → Contains (live_choices t n) c → FitsTable t c

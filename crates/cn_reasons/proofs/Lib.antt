@@ -1,11 +1,12 @@
 pub mod AcceptedEntries
 pub mod Evidence
-pub mod FirstOrders
 pub mod GroupLemmas
 pub mod GroupTwins
+pub mod OnwardLemmas
 pub mod Pieces
 pub mod ReasonLemmas
 pub mod RecordingLemmas
+pub mod RestLemmas
 pub mod SightLemmas
 pub mod StateLemmas
 pub mod Told

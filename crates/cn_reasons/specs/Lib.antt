@@ -1,9 +1,10 @@
-pub mod AllOrders
+pub mod Beginnings
 pub mod Explanation
 pub mod Groups
 pub mod Known
 pub mod Lasting
 pub mod NotRecording
+pub mod Onward
 pub mod Recoverable
 pub mod Refutations
 pub mod Runs

@@ -22,6 +22,7 @@ mod group;
 mod lasting;
 pub mod laws;
 mod numbers;
+mod onward;
 mod reason;
 mod reasons;
 mod recording;

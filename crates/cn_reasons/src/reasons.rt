@@ -7,21 +7,20 @@ ghost use Rattle.cn_choice.specs.RawChoices.{IsRawChoice};
 ghost use Rattle.cn_choice.specs.declared.limits.TheConstants.{MOST_PROCESSES};
 ghost use Rattle.cn_recover.specs.Recording.{IsRecordingWitness};
 ghost use Rattle.cn_finding.specs.Evidence.{NoneIs};
-ghost use Rattle.cn_reasons.specs.AllOrders.{AreAllOrders};
 ghost use Rattle.cn_reasons.specs.Known.{IsKnownRecoverableWay, IsKnownRefutation};
 ghost use Rattle.cn_reasons.specs.NotRecording.{IsReason};
+ghost use Rattle.cn_reasons.specs.Onward.{AreOnward};
 ghost use Rattle.cn_reasons.specs.Recoverable.{IsRecoverableWayOf};
 ghost use Rattle.cn_reasons.specs.Refutations.{first_told, IsRefutationOf};
 
 use crate::group::{ChoiceGroups, choice_groups};
+use crate::onward::Onward;
 use crate::reason::Reason;
 use crate::refutation::Refutation;
 use crate::runs::{Runs, runs_of};
 use crate::search::reason_among;
-use arrayvec::ArrayVec;
 use cn_choice::laws::{live_list, short_orders};
-use cn_choice::reference::plain_orders;
-use cn_choice::{Choice, Choices, MOST_PROCESSES, RawChoice};
+use cn_choice::{Choice, Choices, RawChoice};
 use cn_form::MOST_TOLD;
 use cn_table::{State, Table};
 use std::alloc::{AllocError, Global};
@@ -57,21 +56,16 @@ fn way_by(table: &Table, choice: &Choice, reason: &Reason) -> RecoverableWay
 }
 
 /// The way of a choice for n processes that is no recording witness.
-fn way_of(
-    table: &Table,
-    choice: &Choice,
-    n: u8,
-    orders: &[ArrayVec<u8, MOST_PROCESSES>],
-) -> RecoverableWay
+fn way_of(table: &Table, choice: &Choice, n: u8, onward: &Onward) -> RecoverableWay
     requires some { 2 ≤ n }
     requires few { n ≤ MOST_PROCESSES }
     requires fits { IsRawChoice table.now n (raw_choice_of choice.now) }
-    requires orders { AreAllOrders n orders.now }
+    requires onward { AreOnward table.now onward.now }
     requires no_witness { ¬ IsRecordingWitness table.now (raw_choice_of choice.now) }
     ensures way { IsRecoverableWayOf table.now choice.now result }
     ensures known { IsKnownRecoverableWay table.now result }
 {
-    match reason_among(table, choice, orders) {
+    match reason_among(table, choice, onward) {
         Some(reason) => way_by(table, choice, &reason),
         None => unreachable!(),
     }
@@ -84,13 +78,13 @@ fn tell(
     table: &Table,
     choice: &Choice,
     n: u8,
-    orders: &[ArrayVec<u8, MOST_PROCESSES>],
+    onward: &Onward,
     all: bool,
 ) -> Result<(), AllocError>
     requires some { 2 ≤ n }
     requires few { n ≤ MOST_PROCESSES }
     requires fits { IsRawChoice table.now n (raw_choice_of choice.now) }
-    requires orders { AreAllOrders n orders.now }
+    requires onward { AreOnward table.now onward.now }
     requires no_witness { ¬ IsRecordingWitness table.now (raw_choice_of choice.now) }
     requires so_far { All (IsKnownRecoverableWay table.now) ways.old.items }
     ensures ways { (before : List ChoiceOf)
@@ -102,7 +96,7 @@ fn tell(
     if !all && ways.len() >= MOST_TOLD {
         return Ok(());
     }
-    ways.push(way_of(table, choice, n, orders))?;
+    ways.push(way_of(table, choice, n, onward))?;
     Ok(())
 }
 
@@ -128,10 +122,10 @@ pub(crate) fn refutation_for(
     live_list();
     // The number of canonical choices, and so that of the live ones, is below 2 ^ 64.
     let _most = cn_choice::count(table.states(), table.operations(), n);
-    let orders = plain_orders(alloc, n)?;
+    let onward = Onward::new(alloc, table)?;
     let (mut ways, mut count) = (Vec::new(alloc), 0);
     for choice in Choices::new(table, n) {
-        tell(&mut ways, table, &choice, n, orders.as_slice(), all)?;
+        tell(&mut ways, table, &choice, n, &onward, all)?;
         count += 1;
     }
     let more = count - ways.len();

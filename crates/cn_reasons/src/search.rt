@@ -1,32 +1,29 @@
 //! The search for the reason why a choice is no recording witness.
-ghost use Rattle.std.specs.Prelude.{◌≡◌, ◌+◌, ◌<◌, ◌≤◌, ◌↔◌, ℕ, length, IfNone, IfOk, IfSome, IsBitSet};
+ghost use Rattle.std.specs.Prelude.{◌<◌, ◌↔◌, ℕ, IfNone, IfOk, IfSome, IsBitSet};
 ghost use Rattle.cn_choice.specs.Canonical.{FitsTable, raw_choice_of};
-ghost use Rattle.cn_choice.specs.declared.limits.TheConstants.{MOST_PROCESSES};
 ghost use Rattle.cn_choice.specs.declared.team.Team.TheVariants.{A, B};
 ghost use Rattle.cn_outcomes.specs.LeftStates.{LeavesIn};
 ghost use Rattle.cn_recover.specs.Recording.{IsRecordingWitness};
-ghost use Rattle.cn_reasons.specs.AllOrders.{AreAllOrders};
 ghost use Rattle.cn_reasons.specs.NotRecording.{BothLeave, IsBack, IsCommon, IsFirstOrder, IsReason};
+ghost use Rattle.cn_reasons.specs.Onward.{AreOnward};
 ghost use Rattle.cn_reasons.specs.Searched.{IsLeastIn, IsSubject};
 
-use crate::first_order::first_order;
-use crate::group::processes_of;
+use crate::first_order::{Aim, first_order};
+use crate::onward::Onward;
 use crate::reason::Reason;
 use arrayvec::ArrayVec;
-use cn_choice::laws::short_orders;
-use cn_choice::reference::plain_orders;
 use cn_choice::{Choice, MOST_PROCESSES, RawChoice, Team};
 use cn_outcomes::{Bits, WIDTH, left_states};
 use cn_table::{State, Table};
 use std::alloc::{AllocError, Global};
 
-/// A choice, as a choice and as a raw choice, with all orders of its processes.
+/// A choice, as a choice and as a raw choice, with the words of its table.
 #[derive(Clone, Copy)]
 struct Subject<'s> {
     table: &'s Table,
     choice: &'s Choice,
     raw: &'s RawChoice,
-    orders: &'s [ArrayVec<u8, MOST_PROCESSES>],
+    onward: &'s Onward,
 }
 
 /// The least number in both sets.
@@ -44,25 +41,21 @@ fn least_common(from_a: Bits, from_b: Bits) -> Option<u8>
     None
 }
 
-/// The list of these processes.
-fn list_of(order: &[u8]) -> ArrayVec<u8, MOST_PROCESSES>
-    requires { length order.now ≤ MOST_PROCESSES }
-    ensures { result.items ≡ order.now }
-{
-    let mut list = ArrayVec::new();
-    let _fits = list.try_extend_from_slice(order);
-    list
-}
-
 /// The first order of the team that leaves the state, which some order of it does.
 fn order_to(subject: &Subject<'_>, team: Team, state: State) -> ArrayVec<u8, MOST_PROCESSES>
     requires subject { IsSubject subject.now }
     requires some { LeavesIn subject.now.table.now subject.now.raw.now team state.0 }
     ensures { IsFirstOrder subject.now.table.now subject.now.raw.now team state.0 result.items }
 {
-    short_orders();
-    let (table, raw, orders) = (subject.table, subject.raw, subject.orders);
-    list_of(first_order(table, raw, orders, team, state))
+    let _states = subject.table.states();
+    let aim = Aim {
+        table: subject.table,
+        choice: subject.raw,
+        onward: subject.onward,
+        team,
+        state,
+    };
+    first_order(&aim)
 }
 
 /// The reason if the state is the least that orders of both teams leave.
@@ -126,14 +119,10 @@ fn reason_for(subject: &Subject<'_>) -> Option<Reason>
     }
 }
 
-/// Why the choice is no recording witness, with all orders of its processes ([`reason_of`]).
-pub(crate) fn reason_among(
-    table: &Table,
-    choice: &Choice,
-    orders: &[ArrayVec<u8, MOST_PROCESSES>],
-) -> Option<Reason>
+/// Why the choice is no recording witness, with the words of the table ([`reason_of`]).
+pub(crate) fn reason_among(table: &Table, choice: &Choice, onward: &Onward) -> Option<Reason>
     requires fits { FitsTable table.now choice.now }
-    requires orders { AreAllOrders (length choice.now.a + length choice.now.b) orders.now }
+    requires onward { AreOnward table.now onward.now }
     ensures none { IfNone result (IsRecordingWitness table.now (raw_choice_of choice.now)) }
     ensures reason { IfSome result (IsReason table.now (raw_choice_of choice.now)) }
 {
@@ -142,7 +131,7 @@ pub(crate) fn reason_among(
         table,
         choice,
         raw: &raw,
-        orders,
+        onward,
     };
     reason_for(&subject)
 }
@@ -171,6 +160,6 @@ pub fn reason_of(
     ensures reason { IfOk result (λ reason. IfSome reason
         (IsReason table.now (raw_choice_of choice.now))) }
 {
-    let orders = plain_orders(alloc, processes_of(choice))?;
-    Ok(reason_among(table, choice, orders.as_slice()))
+    let onward = Onward::new(alloc, table)?;
+    Ok(reason_among(table, choice, &onward))
 }

@@ -2,6 +2,8 @@ pub mod Gap
 pub mod NumberBounds
 pub mod Numbers
 pub mod Recordings
+pub mod RowCarrying
+pub mod RowLists
 pub mod ShortOrders
 pub mod StockRecords
 pub mod StateTests

@@ -40,3 +40,8 @@ pub found_by_stocks : {E : Type 0} (t : TypeTable) (most : ℕ) → ((n : ℕ) �
     → IfOk r (IsRecoverableNumberUpTo t most)
 found_by_stocks t most law (Ok found) h = by_stocks t most law found h
 found_by_stocks t most law (Err e) h = tt
+
+-- a type that is recording for the same numbers of processes has the same number
+pub same_up_to : (t u : TypeTable) → ((n : ℕ) → IsRecording t n ↔ IsRecording u n) → (most : ℕ) (found : Option ℕ) → IsRecoverableNumberUpTo u most found → IsRecoverableNumberUpTo t most found
+same_up_to t u same most None is = λ m two l r. is m two l ((same m).0 r)
+same_up_to t u same most (Some n) is = (is.0, is.1, (same n).1 is.2, λ m l v r. is.3 m l v ((same m).0 r))

@@ -1,7 +1,8 @@
 //! The laws that hold of recording witnesses and of recoverable numbers for every type and limit.
 //!
 //! A law is a function that does nothing: its contract is the law.
-ghost use Rattle.std.specs.Prelude.{◌≤◌, ◌+◌, ◌-◌, ◌↔◌, ℕ, All, Contains, IsSomeAnd, Option, Some};
+ghost use Rattle.std.specs.Prelude.{◌≤◌, ◌+◌, ◌-◌, ◌↔◌, ◌<◌, ℕ, All, Contains, IsSomeAnd, List, Option, Some, length};
+ghost use Rattle.cn_table.specs.Restriction.{with_operations};
 ghost use Rattle.cn_table.specs.TypeTable.{TypeTable};
 ghost use Rattle.cn_choice.specs.Canonical.{Choice, raw_choice_of};
 ghost use Rattle.cn_choice.specs.Discerning.{IsDiscerning, IsNumberUpTo, IsWitness};
@@ -11,6 +12,7 @@ ghost use Rattle.cn_choice.specs.Renumbering.{Embeds, with_other_teams};
 ghost use Rattle.cn_choice.specs.declared.team.Team.TheVariants.{A, B};
 ghost use Rattle.cn_stocks.specs.Records.{SomeRecords};
 ghost use Rattle.cn_recover.specs.Recording.{IsRecording, IsRecordingWitness, IsRecoverableNumberUpTo, Misses};
+ghost use Rattle.cn_recover.specs.Rows.{HaveEachRow, IsByRows};
 
 use cn_choice::laws::{
     Property, canonical_choices_decide, choice_by_teams, coverage, live_list, witnesses_are_live,
@@ -110,3 +112,18 @@ pub fn no_greatest_together()
 {
     at_least_the_number_less_two();
 }
+
+/// Of the operations that lead from each state to the same one a type needs one alone, whatever
+/// their responses are: it is n-recording exactly if it is so with some of its operations, where
+/// each other one leads from each state to where one of these does; so, if it is so with one of
+/// each row. In a recording witness a process with the one operation can do the other one in its
+/// place: each order leaves the same state.
+pub fn one_operation_of_each_row_is_enough()
+    // promise: recording-by-rows (HaveEachRow, IsRecording)
+    ensures some { (t : TypeTable) (operations : List ℕ)
+        → All (λ o. o < length t.operations) operations → HaveEachRow t operations → (n : ℕ)
+        → IsRecording t n ↔ IsRecording (with_operations t operations) n }
+    // promise: recording-by-rows (IsByRows, IsRecording)
+    ensures rows { (t u : TypeTable) → IsByRows t u → (n : ℕ)
+        → IsRecording t n ↔ IsRecording u n }
+{}

@@ -19,6 +19,7 @@
 mod first;
 pub mod laws;
 mod number;
+mod rows;
 mod witness;
 
 pub use first::first_recording_witness;

@@ -10,6 +10,7 @@ ghost use Rattle.cn_search.specs.declared.fault.FindFault.TheVariants.{OutOfMemo
 ghost use Rattle.cn_recover.specs.Recording.{HasRecoverableNumber, IsRecoverableNumberUpTo};
 
 use crate::laws;
+use crate::rows::by_rows;
 use cn_search::{
     ConsensusNumber, FindFault, LEAST_LIMIT, Threading, consensus_number, with_fallback,
 };
@@ -56,6 +57,22 @@ fn greatest<T: Threads + Sync>(
     )
 }
 
+/// The same by a search of one operation of each row.
+fn greatest_by_rows<T: Threads + Sync>(
+    rt: &T,
+    alloc: Global,
+    table: &Table,
+    most: u8,
+) -> Result<Option<u8>, AllocError>
+    requires some { 2 ≤ most }
+    requires few { most ≤ MOST_SIZE }
+    ensures { IfOk result (IsRecoverableNumberUpTo table.now most) }
+{
+    laws::one_operation_of_each_row_is_enough();
+    let searched = by_rows(alloc, table)?;
+    greatest(rt, alloc, &searched, most)
+}
+
 /// The recoverable number of a type up to a limit, from [`LEAST_LIMIT`](cn_search::LEAST_LIMIT) to
 /// [`GREATEST_LIMIT`](cn_search::GREATEST_LIMIT): the greatest n from 2 to the limit for which the
 /// type is n-recording, if there is one.
@@ -64,7 +81,8 @@ fn greatest<T: Threads + Sync>(
 /// ([`laws::at_most_the_number`](crate::laws::at_most_the_number)). The type may have any number of
 /// choices: the search goes by stocks of operations
 /// ([`laws::records_decide`](crate::laws::records_decide)), in several threads, or in one if these
-/// get too little memory.
+/// get too little memory. Of operations that lead from each state to the same one it takes one
+/// ([`laws::one_operation_of_each_row_is_enough`](crate::laws::one_operation_of_each_row_is_enough)).
 ///
 /// # Errors
 ///
@@ -87,7 +105,7 @@ pub fn recoverable_number<T: Threads + Sync>(
     if let Some(fault) = FindFault::of_limit(limit) {
         return Err(fault);
     }
-    Ok(greatest(rt, alloc, table, limit)?)
+    Ok(greatest_by_rows(rt, alloc, table, limit)?)
 }
 
 /// The number with no limit, from the one up to the bound, or up to 2 if the bound is less.
@@ -127,7 +145,7 @@ fn number_below<T: Threads + Sync>(
     requires above { (m : ℕ) → bound < m → ¬ IsDiscerning table.now m }
     ensures { IfOk result (HasRecoverableNumber table.now) }
 {
-    let found = greatest(rt, alloc, table, most_processes(table, bound))?;
+    let found = greatest_by_rows(rt, alloc, table, most_processes(table, bound))?;
     Ok(without_limit(table, bound, found))
 }
 

@@ -1,8 +1,8 @@
 -- The certificate of what is found.
-use Rattle.std.proofs.Common.{◌≡◌, ◌≢◌, ℕ, ◌+◌, ◌<◌, ◌≤◌, List, ◌∷◌, refl, sym, subst, arith, Contains, Option, Some, None, Bool, true, false, cond, nat_le, ◌&&◌}
+use Rattle.std.proofs.Common.{◌≡◌, ◌≢◌, ℕ, ◌+◌, ◌<◌, ◌≤◌, List, ◌∷◌, length, inl, inr, refl, sym, ap, ◌∙◌, subst, arith, Contains, Option, Some, None, Bool, true, false, cond, nat_le, ◌&&◌}
 use Rattle.std.specs.Prelude.{MatchOption, nat_lt}
 use Rattle.std.specs.Option.{option_map}
-use Rattle.std.proofs.lemmas.Bool.{and_parts, leb-true, ltb-true}
+use Rattle.std.proofs.lemmas.Bool.{and_parts, leb-true, ltb-false, ltb-true}
 use Rattle.std.proofs.lemmas.Option.{same_Some}
 use Rattle.std.proofs.lemmas.List.Elements.{Contains-append_right}
 use Rattle.cn_table.specs.TypeTable.{TypeTable}
@@ -13,12 +13,16 @@ use Rattle.cn_choice.specs.RawChoices.{IsRawChoice}
 use Rattle.cn_finding.specs.Evidence.{IsFirstAmong, NoneIsWitness}
 use Rattle.cn_joins.specs.Evidence.{IsEvidenceAgainst}
 use Rattle.cn_joins.specs.Joins.{Join}
+use Rattle.cn_finding.specs.declared.limits.TheConstants.{GREATEST_LIMIT, LEAST_LIMIT}
 use Rattle.cn_search.specs.Faults.{number_fault}
+use Rattle.cn_search.specs.Numbers.{HasNumber}
+use Rattle.cn_search.specs.declared.exact.ConsensusNumber.TheVariants.{Finite, Infinite}
+use Rattle.cn_stocks.specs.declared.limits.TheConstants.{MOST_SIZE}
 use Rattle.cn_search.specs.declared.fault.FindFault.TheVariants.{BadLimit}
 use Rattle.cn_stock_cert.specs.Certificate.{StockCertificate}
 use Rattle.cn_stock_cert.specs.Right.{AreInRange, ShowsAtLeast, ShowsAtMost}
 use Rattle.cn_stock_cert.specs.declared.certificate.StockClaim.{StockClaim}
-use Rattle.cn_stock_find.specs.Found.{IsFirstClaim, IsFoundCertificate, lower_bound, upper_bound}
+use Rattle.cn_stock_find.specs.Found.{IsCertificateOf, IsClaimOf, IsFirstClaim, IsFoundCertificate, discerning_number, exact_bound, lower_bound, upper_bound}
 
 -- ---- the upper bound
 
@@ -61,26 +65,91 @@ shows_least t limit (Some n) claim is raw f =
     let listed = subst (λ (l : List Choice). Contains l f.0) (sym first.listed) (Contains-append_right first.before (f.0 ∷ first.after) f.0 (0, omega arith, refl)) in
     subst (λ (claim : StockClaim). ShowsAtLeast t claim (Some n)) (sym f.1) (raw n f.0 listed, first.witness)
 
-in_range : (t : TypeTable) (limit : ℕ) (number most : Option ℕ) → 2 ≤ limit → limit ≤ 8 → IsNumberUpTo t limit number → upper_bound limit number ≡ most → AreInRange (Some (lower_bound number)) most
+-- the first claim shows the number
+pub first_shows : (t : TypeTable) (limit : ℕ) (number : Option ℕ) (claim : StockClaim) → IsNumberUpTo t limit number
+    → ((n : ℕ) (w : Choice) → Contains (live_choices t n) w → IsRawChoice t n (raw_choice_of w)) → IsFirstClaim t number claim → IsClaimOf t number claim
+first_shows t limit number claim is raw first = record { shows = shows_least t limit number claim is raw first; first = λ few. first }
+
+-- a number above the greatest limit has no first claim
+pub some_shows : (t : TypeTable) (n : ℕ) (claim : StockClaim) → GREATEST_LIMIT < n → ShowsAtLeast t claim (Some n) → IsClaimOf t (Some n) claim
+some_shows t n claim more shows = record { shows = shows; first = λ few. absurd (omega (arith, more, few)) }
+
+in_range : (t : TypeTable) (limit : ℕ) (number most : Option ℕ) → 2 ≤ limit → limit ≤ 16 → IsNumberUpTo t limit number → upper_bound limit number ≡ most → AreInRange (Some (lower_bound number)) most
 in_range t limit number (Some m) two few is e =
     let b = bound_in t limit number m two is e in
     (omega (arith, b.0, b.1), omega (arith, b.0), omega (arith, b.2, few))
 in_range t limit None None two few is e = absurd (cc e)
 in_range t limit (Some n) None two few is e = (omega (arith, is.0), omega (arith, is.1, few))
 
-pub found_up_to : (t : TypeTable) (limit : ℕ) (number : Option ℕ) → 2 ≤ limit → limit ≤ 8 → IsNumberUpTo t limit number
-    → ((n : ℕ) (w : Choice) → Contains (live_choices t n) w → IsRawChoice t n (raw_choice_of w)) → (c : StockCertificate) → c.at_least ≡ Some (lower_bound number)
-    → c.at_most ≡ upper_bound limit number → IsFirstClaim t number c.least → ShowsAtMost t c.most (upper_bound limit number) → c.type_name ≡ t.name → IsFoundCertificate t (Some limit) c
-found_up_to t limit number two few is raw c least most claim joins name = record {
+pub certificate_for : (t : TypeTable) (limit : ℕ) (number : Option ℕ) → 2 ≤ limit → limit ≤ 16 → IsNumberUpTo t limit number → (c : StockCertificate) → c.at_least ≡ Some (lower_bound number)
+    → c.at_most ≡ upper_bound limit number → IsClaimOf t number c.least → ShowsAtMost t c.most (upper_bound limit number) → c.type_name ≡ t.name → IsCertificateOf t limit number c
+certificate_for t limit number two few is c least most claim joins name = record {
   right = record {
     type_name = name;
     in_range = subst (λ (a : Option ℕ). AreInRange a c.at_most) (sym least)
         (subst (AreInRange (Some (lower_bound number))) (sym most) (in_range t limit number (upper_bound limit number) two few is refl));
-    least = subst (ShowsAtLeast t c.least) (sym least) (shows_least t limit number c.least is raw claim);
+    least = subst (ShowsAtLeast t c.least) (sym least) claim.shows;
     most = subst (ShowsAtMost t c.most) (sym most) joins;
   };
-  found = record { number = number; is_number = is; at_least = least; at_most = most; least = claim };
+  at_least = least;
+  at_most = most;
+  least = claim;
 }
+
+-- a number up to one of the limits
+pub found_up_to : (t : TypeTable) (limit : ℕ) (number : Option ℕ) → limit ≤ 8 → IsNumberUpTo t limit number → (c : StockCertificate) → IsCertificateOf t limit number c → IsFoundCertificate t (Some limit) c
+found_up_to t limit number few is c of = record {
+  right = of.right;
+  found = record { number = number; is_number = is; at_least = of.at_least; at_most = of.at_most; least = of.least.first (small number is) };
+}
+  where
+    small : (number : Option ℕ) → IsNumberUpTo t limit number → lower_bound number ≤ GREATEST_LIMIT
+    small None is = omega arith
+    small (Some n) is = omega (arith, is.1, few)
+
+-- ---- the number of a type
+
+-- up to the most operations of a stock
+pub number_within : (t : TypeTable) (n : ℕ) → length t.states ≤ 16 → HasNumber t (Finite n) → IsNumberUpTo t MOST_SIZE (discerning_number n)
+number_within t n states (one, few, is, none) = by_test (nat_lt n LEAST_LIMIT) refl
+  where
+    within : n ≤ 16
+    within = elim few [
+      | inl small ↦ omega (arith, small)
+      | inr known ↦ omega (arith, known, states)
+    ]
+
+    by_test : (b : Bool) → nat_lt n LEAST_LIMIT ≡ b → IsNumberUpTo t MOST_SIZE (cond b None (Some n))
+    by_test true e = λ m two limit. none m (let l : n < 2 = ltb-true n LEAST_LIMIT e in omega (arith, l, two))
+    by_test false e = let two : 2 ≤ n = ltb-false n LEAST_LIMIT e in (two, within, is two, λ m less limit. none m less)
+
+-- its bounds are those of the number
+bounds_of : (n : ℕ) → 1 ≤ n → (lower_bound (discerning_number n) ≡ n) × (upper_bound MOST_SIZE (discerning_number n) ≡ exact_bound n)
+bounds_of n one = by_test (nat_lt n LEAST_LIMIT) refl
+  where
+    by_test : (b : Bool) → nat_lt n LEAST_LIMIT ≡ b → (lower_bound (cond b None (Some n)) ≡ n) × (upper_bound MOST_SIZE (cond b None (Some n)) ≡ exact_bound n)
+    by_test true e =
+        let l : n < 2 = ltb-true n LEAST_LIMIT e in
+        let same : 1 ≡ n = omega (arith, l, one) in
+        (same, ap exact_bound same)
+    by_test false e = (refl, refl)
+
+pub found_exactly : (t : TypeTable) (n : ℕ) → HasNumber t (Finite n) → (c : StockCertificate) → IsCertificateOf t MOST_SIZE (discerning_number n) c → IsFoundCertificate t None c
+found_exactly t n is c of =
+    let b = bounds_of n is.0 in record {
+      right = of.right;
+      found = inr (record {
+        number = n;
+        is_number = is;
+        at_least = of.at_least ∙ ap Some b.0;
+        at_most = of.at_most ∙ b.1;
+        least = λ few. of.least.first (omega (arith, few, b.0));
+      });
+    }
+
+-- the number of a type that is not discerning for some number is finite
+pub not_infinite : (t : TypeTable) → HasNumber t Infinite → ((n : ℕ) × (2 ≤ n) × ¬ IsDiscerning t n) → ⊥
+not_infinite t always fails = fails.2 (always fails.0 fails.1)
 
 -- a type that is discerning has a first witness
 pub no_first : (t : TypeTable) (n : ℕ) (found : Option Choice) → ((w : Choice) → found ≢ Some w) → IsFirstAmong (IsWitness t) (live_choices t n) found

@@ -1,6 +1,2 @@
-pub mod Words
-pub mod Crossing
-pub mod Reached
-pub mod Levels
 pub mod LeastSets
 pub mod Found

@@ -1,27 +1,34 @@
 //! The certificate by stocks of a type.
 ghost use Rattle.std.specs.Prelude.{◌≡◌, ◌≤◌, ◌⊎◌, Err, IfErr, IfOk, None, OnOk, Some, option_map};
-ghost use Rattle.cn_choice.specs.Discerning.{IsNumberUpTo};
+ghost use Rattle.cn_choice.specs.Discerning.{IsDiscerning, IsNumberUpTo};
 ghost use Rattle.cn_finding.specs.declared.limits.TheConstants.{GREATEST_LIMIT, LEAST_LIMIT};
 ghost use Rattle.cn_search.specs.Faults.{number_fault};
+ghost use Rattle.cn_search.specs.Numbers.{HasNumber};
+ghost use Rattle.cn_search.specs.declared.exact.ConsensusNumber.TheVariants.{Finite as FiniteNumber};
 ghost use Rattle.cn_search.specs.declared.fault.FindFault.{FindFault};
 ghost use Rattle.cn_search.specs.declared.fault.FindFault.TheVariants.{OutOfMemory};
-ghost use Rattle.cn_stock_cert.specs.Right.{ShowsAtMost};
+ghost use Rattle.cn_stock_cert.specs.Right.{ShowsAtLeast, ShowsAtMost};
 ghost use Rattle.cn_stock_cert.specs.declared.certificate.StockClaim.TheVariants.{Witness};
-ghost use Rattle.cn_stock_find.specs.Found.{IsFirstClaim, IsFoundCertificate, limit_fault, lower_bound, upper_bound};
+ghost use Rattle.cn_stock_find.specs.Found.{IsCertificateOf, IsClaimOf, IsFirstClaim, IsFoundCertificate};
+ghost use Rattle.cn_stock_find.specs.Found.{discerning_number, limit_fault, lower_bound, upper_bound};
+ghost use Rattle.cn_stocks.specs.declared.limits.TheConstants.{MOST_SIZE};
 ghost use Rattle.cn_stocks.specs.Leaving.{IsLasting};
 
-use crate::joins::joins_against;
+use crate::joins::{joins_against, witness_of};
 use crate::lasting::lasting_sets;
 use cn_choice::{Choice, laws};
 use cn_finding::{GREATEST_LIMIT, LEAST_LIMIT};
+use cn_join_find::Split;
 use cn_joins::Join;
 use cn_joins::laws::joins_decide;
 use cn_outcomes::is_witness;
-use cn_search::{FindFault, Kind, first_of_kind, number};
+use cn_search::{ConsensusNumber, FindFault, Kind, consensus_number, first_of_kind, number};
 use cn_stock_cert::{StockCertificate, StockClaim, TeamChoice};
 use cn_stocks::lasting::laws::lasting_operations_decide;
 use cn_stocks::lasting::{Lasting, find_lasting};
-use cn_table::Table;
+use cn_stocks::limits::MOST_SIZE;
+use cn_table::laws::tables_are_valid;
+use cn_table::{State, Table};
 use std::alloc::{AllocError, Global};
 use std::thread::Threads;
 
@@ -54,7 +61,7 @@ fn joins_above<T: Threads + Sync>(
     limit: u8,
     number: Option<u8>,
 ) -> Result<Option<Vec<Join>>, AllocError>
-    requires few { limit ≤ GREATEST_LIMIT }
+    requires few { limit ≤ MOST_SIZE }
     requires some { LEAST_LIMIT ≤ limit }
     requires number { IsNumberUpTo table.now limit number }
     ensures { IfOk result (λ joins. ShowsAtMost table.now (option_map (λ list. list.items) joins)
@@ -95,29 +102,79 @@ fn witness_claim(alloc: Global, choice: &Choice) -> Result<StockClaim, AllocErro
     }))
 }
 
-/// The claim that shows the number up to a limit: its first witness, or nothing if there is no
-/// number.
+/// The claim with the first witness for n processes.
 fn first_claim<T: Threads + Sync>(
+    rt: &T,
+    alloc: Global,
+    table: &Table,
+    n: u8,
+) -> Result<StockClaim, AllocError>
+    requires some { LEAST_LIMIT ≤ n }
+    requires few { n ≤ GREATEST_LIMIT }
+    requires discerning { IsDiscerning table.now n }
+    ensures { IfOk result (IsFirstClaim table.now (Some n)) }
+{
+    laws::live_choices_decide();
+    let found = first_of_kind::<DiscerningWitness, T>(rt, alloc, table, n)?;
+    match found {
+        Some(choice) => witness_claim(alloc, &choice),
+        None => unreachable!(),
+    }
+}
+
+/// The claim with this witness, which a stock that splits gives.
+fn split_claim(split: Split) -> StockClaim
+    ensures { result ≡ Witness split }
+{
+    let Split { start, a, b } = split;
+    StockClaim::Witness(TeamChoice {
+        state: State(start),
+        a,
+        b,
+    })
+}
+
+/// The claim with some witness for n processes.
+fn some_claim<T: Threads + Sync>(
+    rt: &T,
+    alloc: Global,
+    table: &Table,
+    n: u8,
+) -> Result<StockClaim, AllocError>
+    requires some { 3 ≤ n }
+    requires few { n ≤ MOST_SIZE }
+    requires discerning { IsDiscerning table.now n }
+    ensures { IfOk result (λ claim. ShowsAtLeast table.now claim (Some n)) }
+{
+    let found = witness_of(rt, alloc, table, n)?;
+    match found {
+        Some(split) => Ok(split_claim(split)),
+        None => unreachable!(),
+    }
+}
+
+/// The claim that shows the number up to a limit: nothing if there is no number, its first witness
+/// if it is not above [`GREATEST_LIMIT`](cn_finding::GREATEST_LIMIT), and else some witness.
+fn claim_of<T: Threads + Sync>(
     rt: &T,
     alloc: Global,
     table: &Table,
     limit: u8,
     number: Option<u8>,
 ) -> Result<StockClaim, AllocError>
-    requires few { limit ≤ GREATEST_LIMIT }
+    requires few { limit ≤ MOST_SIZE }
     requires number { IsNumberUpTo table.now limit number }
-    ensures { IfOk result (IsFirstClaim table.now number) }
+    ensures { IfOk result (IsClaimOf table.now number) }
 {
-    laws::live_choices_decide();
+    laws::live_list();
     let _limit = limit;
     let Some(n) = number else {
         return Ok(StockClaim::Alone);
     };
-    let found = first_of_kind::<DiscerningWitness, T>(rt, alloc, table, n)?;
-    match found {
-        Some(choice) => witness_claim(alloc, &choice),
-        None => unreachable!(),
+    if n > GREATEST_LIMIT {
+        return some_claim(rt, alloc, table, n);
     }
+    first_claim(rt, alloc, table, n)
 }
 
 /// The certificate of the number up to a limit.
@@ -128,15 +185,14 @@ fn certificate_of<T: Threads + Sync>(
     limit: u8,
     number: Option<u8>,
 ) -> Result<StockCertificate, AllocError>
-    requires few { limit ≤ GREATEST_LIMIT }
+    requires few { limit ≤ MOST_SIZE }
     requires some { LEAST_LIMIT ≤ limit }
     requires number { IsNumberUpTo table.now limit number }
-    ensures { IfOk result (IsFoundCertificate table.now (Some limit)) }
+    ensures { IfOk result (IsCertificateOf table.now limit number) }
 {
-    laws::live_list();
     let at_least = least_of(number);
     let at_most = most_of(limit, number);
-    let least = first_claim(rt, alloc, table, limit, number)?;
+    let least = claim_of(rt, alloc, table, limit, number)?;
     let most = joins_above(rt, alloc, table, limit, number)?;
     let type_name = String::from_str(alloc, table.name())?;
     Ok(StockCertificate {
@@ -161,7 +217,35 @@ fn find_up_to<T: Threads + Sync>(
     ensures refused { IfErr result (λ e. (e ≡ OutOfMemory) ⊎ (number_fault limit ≡ Some e)) }
 {
     let found = number(rt, alloc, table, limit)?;
-    Ok(certificate_of(rt, alloc, table, limit, found)?)
+    let certificate = certificate_of(rt, alloc, table, limit, found)?;
+    Ok(certificate)
+}
+
+/// The number, if it is from 2 on.
+fn from_two(n: u8) -> Option<u8>
+    ensures { result ≡ discerning_number n }
+{
+    if n < LEAST_LIMIT {
+        return None;
+    }
+    Some(n)
+}
+
+/// The certificate of a finite number.
+fn finite_certificate<T: Threads + Sync>(
+    rt: &T,
+    alloc: Global,
+    table: &Table,
+    n: u8,
+) -> Result<StockCertificate, AllocError>
+    requires number { HasNumber table.now (FiniteNumber n) }
+    ensures { IfOk result (IsFoundCertificate table.now None) }
+{
+    tables_are_valid(table);
+    let limit = MOST_SIZE as u8;
+    let number = from_two(n);
+    let certificate = certificate_of(rt, alloc, table, limit, number)?;
+    Ok(certificate)
 }
 
 /// The certificate of two operations that last.
@@ -185,21 +269,23 @@ fn lasting_certificate(
     })
 }
 
-/// The certificate with no limit. A number from [`GREATEST_LIMIT`](cn_finding::GREATEST_LIMIT) on,
-/// if there is one, is told as this lower bound, with no upper one.
+/// The certificate with no limit.
 fn find_without_limit<T: Threads + Sync>(
     rt: &T,
     alloc: Global,
     table: &Table,
-) -> Result<StockCertificate, FindFault>
-    ensures certificate { IfOk result (IsFoundCertificate table.now None) }
-    ensures refused { IfErr result (λ e. e ≡ OutOfMemory) }
+) -> Result<StockCertificate, AllocError>
+    ensures { IfOk result (IsFoundCertificate table.now None) }
 {
     lasting_operations_decide();
     if let Some(lasting) = find_lasting(table) {
-        return Ok(lasting_certificate(alloc, table, lasting)?);
+        return lasting_certificate(alloc, table, lasting);
     }
-    find_up_to(rt, alloc, table, GREATEST_LIMIT)
+    let number = consensus_number(rt, alloc, table)?;
+    match number {
+        ConsensusNumber::Finite(n) => finite_certificate(rt, alloc, table, n),
+        ConsensusNumber::Infinite => unreachable!(),
+    }
 }
 
 /// The certificate by stocks of a type: its bounds, and evidence for each.
@@ -207,11 +293,12 @@ fn find_without_limit<T: Threads + Sync>(
 /// With a limit, from [`LEAST_LIMIT`](cn_finding::LEAST_LIMIT) to
 /// [`GREATEST_LIMIT`](cn_finding::GREATEST_LIMIT), the lower bound is the number up to the limit, or
 /// 1, and a number below the limit is the upper bound too. With no limit, a type with every number
-/// has no bounds, and any other one has those up to the greatest limit.
+/// has no bounds. The finite number of any other one is its lower bound, and its upper one too if it
+/// is below [`MOST_SIZE`](cn_stocks::limits::MOST_SIZE).
 ///
-/// The first canonical witness shows the lower bound. Joins show the upper one
-/// ([`joins_against`](crate::joins_against)). Sets of states show every number
-/// ([`lasting_sets`](crate::lasting_sets)).
+/// The first canonical witness shows the lower bound, and another witness one above the greatest
+/// limit. Joins show the upper one ([`joins_against`](crate::joins_against)). Sets of states show
+/// every number ([`lasting_sets`](crate::lasting_sets)).
 ///
 /// # Errors
 ///
@@ -234,6 +321,6 @@ pub fn find_stocks<T: Threads + Sync>(
 {
     match limit {
         Some(limit) => find_up_to(rt, alloc, table, limit),
-        None => find_without_limit(rt, alloc, table),
+        None => Ok(find_without_limit(rt, alloc, table)?),
     }
 }

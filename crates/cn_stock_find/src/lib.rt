@@ -10,17 +10,11 @@
 //! ```
 #![tactic(auto)]
 
-mod connect;
-mod crossing;
 mod find;
 mod joins;
 mod lasting;
-mod level;
-mod notices;
-mod reach;
 #[cfg(test)]
 mod tests;
-mod words;
 
 pub use find::find_stocks;
 pub use joins::joins_against;

@@ -66,6 +66,34 @@ next = ["b1", "a2", "dead", "b2", "dead", "dead"]
 "#
 }
 
+/// The type of a counter with so many states, which stays at the last one when it is incremented,
+/// and comes back to it when the first one is decremented. Its number is that of its states.
+fn inc_dec(alloc: Global, states: u8) -> Result<String, Fail>
+    requires few { 1 ≤ states }
+    requires some { states ≤ 16 }
+{
+    let mut names = String::new(alloc);
+    let mut inc = String::new(alloc);
+    let mut dec = String::new(alloc);
+    for state in 0..states {
+        let next = if state + 1 < states { state + 1 } else { state };
+        let last = if state > 0 { state - 1 } else { states - 1 };
+        names.push_str(format!(in alloc; "\"s{state}\",")?.as_str())?;
+        inc.push_str(format!(in alloc; "\"s{next}\",")?.as_str())?;
+        dec.push_str(format!(in alloc; "\"s{last}\",")?.as_str())?;
+    }
+    let head = format!(in alloc;
+        "name = \"inc_dec\"\nstates = [{names}]\nresponses = [{names}]\n"
+    )?;
+    let first = format!(in alloc;
+        "[[operation]]\nname = \"inc\"\nresponse = [{names}]\nnext = [{inc}]\n"
+    )?;
+    let second = format!(in alloc;
+        "[[operation]]\nname = \"dec\"\nresponse = [{names}]\nnext = [{dec}]\n"
+    )?;
+    Ok(format!(in alloc; "{head}{first}{second}")?)
+}
+
 /// The text of the certificate of a type.
 fn told<T: Threads + Sync>(
     rt: &T,
@@ -115,7 +143,7 @@ fn joins<T: Threads + Sync>(
     n: u8,
 ) -> Result<Option<usize>, Fail>
     requires some { 2 ≤ n }
-    requires few { n ≤ 8 }
+    requires few { n ≤ 16 }
 {
     match joins_against(rt, alloc, table, n)? {
         Some(joins) => Ok(Some(joins.len())),
@@ -129,5 +157,30 @@ fn joins_of_three_shot(rt: HostRuntime) -> Result<(), Fail> {
     let table = read_table(alloc, three_shot().as_bytes())?;
     assert!(rt; joins(&rt, alloc, &table, 3)?.is_none());
     assert!(rt; joins(&rt, alloc, &table, 4)? == Some(10));
+    Ok(())
+}
+
+/// The bounds of a counter with so many states, with no limit.
+fn bounds<T: Threads + Sync>(
+    rt: &T,
+    alloc: Global,
+    states: u8,
+) -> Result<(Option<u8>, Option<u8>), Fail>
+    requires few { 1 ≤ states }
+    requires some { states ≤ 16 }
+{
+    let text = inc_dec(alloc, states)?;
+    let table = read_table(alloc, text.as_bytes())?;
+    let found = find_stocks(rt, alloc, &table, None)?;
+    Ok((found.at_least, found.at_most))
+}
+
+#[test]
+fn bounds_of_counters(rt: HostRuntime) -> Result<(), Fail> {
+    let alloc = rt.alloc();
+    assert!(rt; bounds(&rt, alloc, 9)? == (Some(9), Some(9)));
+    assert!(rt; bounds(&rt, alloc, 15)? == (Some(15), Some(15)));
+    // Joins against 17 processes are not looked for.
+    assert!(rt; bounds(&rt, alloc, 16)? == (Some(16), None));
     Ok(())
 }

@@ -14,8 +14,10 @@ use Rattle.cn_telling.specs.declared.levels.Level.{Level}
 use Rattle.cn_telling.specs.declared.search.Search.{Search}
 use Rattle.cn_telling.specs.Candidates.{LacksStart, SplitsFromSome}
 use Rattle.cn_telling.specs.Levels.{IsNext, IsSearch}
+use Rattle.cn_telling.specs.Rows.{RowsDiffer}
 use Rattle.cn_telling.specs.Telling.{SomeTells, Tells}
 use Rattle.cn_telling.proofs.LevelLemmas.{starts_at}
+use Rattle.cn_telling.proofs.RowLemmas.{rows_same, splits_by_rows}
 use Rattle.cn_telling.proofs.TellLemmas.{fewer_tell, split_tells, split_without_one_tells}
 
 -- where the part of the operation that is left out has another one, what is left tells
@@ -86,13 +88,15 @@ search_long t n s i stock is at = is.stocks.long i stock.operations.items (items
 pub some_split : (t : TypeTable) (n : ℕ) (s : Search) (i : ℕ) (stock : Stock) → IsSearch t n s → slice_get s.stocks.list.items i ≡ Some stock → SplitsFromSome t stock.operations.items → SomeSplits t n
 some_split t n s i stock is at h = (h.0, h.1, (stock.operations.items, (is.stocks.stocks i stock at).known, search_long t n s i stock is at, h.2))
 
-pub place_of_split : (t : TypeTable) (n : ℕ) (s : Search) → IsSearch t n s → SomeSplits t n → (i : ℕ) × ((stock : Stock) × (slice_get s.stocks.list.items i ≡ Some stock) × SplitsFromSome t stock.operations.items)
-place_of_split t n s is h =
-    let found = h.2 in
+-- the rows of one that splits differ
+pub place_of_split : (t : TypeTable) (n : ℕ) (s : Search) → 3 ≤ n → IsSearch t n s → SomeSplits t n
+    → (i : ℕ) × ((stock : Stock) × (slice_get s.stocks.list.items i ≡ Some stock) × RowsDiffer t stock.operations.items × SplitsFromSome t stock.operations.items)
+place_of_split t n s some is h =
+    let found = splits_by_rows t n h.0 some h.2 in
     let here = is.stocks.all found.0 found.1 found.2 in
     let stock = stock_at s.stocks.list.items here.0 here.1.0 here.1.1 in
     let same : HaveSame found.0 stock.0.operations.items = λ o. sym (here.1.2 o) ∙ ap (times o) (sym stock.2) in
-    (here.0, (stock.0, stock.1, (h.0, h.1, splits_same t h.0 found.0 stock.0.operations.items same found.3)))
+    (here.0, (stock.0, stock.1, rows_same t found.0 stock.0.operations.items same found.3, (h.0, h.1, splits_same t h.0 found.0 stock.0.operations.items same found.4)))
 
 -- ---- numbers of operations
 

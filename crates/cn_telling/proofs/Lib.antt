@@ -4,3 +4,4 @@ pub mod CellLemmas
 pub mod JoinLemmas
 pub mod LevelLemmas
 pub mod TellLemmas
+pub mod RowLemmas

@@ -6,3 +6,4 @@ pub mod Cells
 pub mod Asking
 pub mod Joined
 pub mod Candidates
+pub mod Rows

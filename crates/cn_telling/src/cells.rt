@@ -164,11 +164,7 @@ fn add_operation(cells: &mut Vec<Stock>, operation: u8, count: usize) -> Result<
 
 /// The stocks within the stock, each behind those that have one operation less. The last one is the
 /// whole stock.
-pub(crate) fn stocks_within(
-    alloc: Global,
-    operations: u8,
-    stock: &[u8],
-) -> Result<Vec<Stock>, AllocError>
+pub fn stocks_within(alloc: Global, operations: u8, stock: &[u8]) -> Result<Vec<Stock>, AllocError>
     requires few { operations ≤ MOST_OPERATIONS }
     requires known { IsKnown operations stock.now }
     requires short { length stock.now ≤ MOST_SIZE }

@@ -11,14 +11,14 @@ use cn_table::{MOST_OPERATIONS, MOST_STATES, Operation, State, Table};
 
 /// The states in which words within a stock end.
 #[derive(Clone, Copy)]
-pub(crate) struct Ends {
+pub struct Ends {
     /// For each start state the set of these.
     pub states: [u16; MOST_STATES],
 }
 
 /// A table, a stock, and the ends of the stocks of one operation less.
 #[derive(Clone, Copy)]
-pub(crate) struct Setting<'s> {
+pub struct Setting<'s> {
     pub table: &'s Table,
     pub stock: &'s Stock,
     /// By the places to which the stock links.

@@ -10,6 +10,7 @@ ghost use Rattle.cn_telling.specs.Levels.{IsNext, IsSearch};
 ghost use Rattle.cn_telling.specs.Telling.{SomeTells};
 
 use crate::levels::Level;
+use crate::rows::rows_differ;
 use crate::search::Search;
 use crate::stock_splits::splits;
 use cn_outcomes::bits::contains;
@@ -91,7 +92,8 @@ fn splits_from_some(
     Ok(false)
 }
 
-/// Whether some stock of the search splits from some state.
+/// Whether some stock of the search splits from some state. It looks at the stocks alone whose
+/// operations lead from some state to different ones: where a stock splits, one of these does.
 fn some_splits(alloc: Global, table: &Table, search: &Search, n: u8) -> Result<bool, AllocError>
     requires search { IsSearch table.now n search.now }
     requires some { 3 ≤ n }
@@ -99,6 +101,9 @@ fn some_splits(alloc: Global, table: &Table, search: &Search, n: u8) -> Result<b
 {
     let _n = n;
     for stock in &search.stocks.list {
+        if !rows_differ(table, stock) {
+            continue;
+        }
         if splits_from_some(alloc, table, &search.below, stock)? {
             return Ok(true);
         }
@@ -145,8 +150,10 @@ fn last_split(
 ///
 /// The search goes up by one operation until no stock tells. Then only stocks of the last number of
 /// operations can split ([`laws::states_tell_all_but_one`](crate::laws::states_tell_all_but_one)),
-/// and of these only those that tell with each operation less but one. It looks at each of them by
-/// [`splits`]. The threads share the stocks of the search.
+/// and of these only those that tell with each operation less but one. Of the operations that lead
+/// from each state to the same one a stock needs one alone
+/// ([`laws::one_operation_of_a_row_is_enough`](crate::laws::one_operation_of_a_row_is_enough)).
+/// [`splits`] looks at each stock that is left. The threads share the stocks of the search.
 ///
 /// # Errors
 ///

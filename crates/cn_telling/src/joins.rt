@@ -15,10 +15,10 @@ use cn_table::{MOST_OPERATIONS, Table};
 use std::alloc::{AllocError, Global};
 
 /// For each first operation the pairs that words which begin with it show one operation.
-type FirstPairs = [PairSet; MOST_OPERATIONS];
+pub type FirstPairs = [PairSet; MOST_OPERATIONS];
 
 /// The pairs that words within the stock show the asked operation, by their first operation.
-fn shown_by_each(asking: &Asking<'_>, start: u8) -> FirstPairs
+pub fn shown_by_each(asking: &Asking<'_>, start: u8) -> FirstPairs
     requires asking { IsAsking asking.now }
     requires start { start < length asking.now.setting.table.now.states }
     ensures { AreShownByEach asking.now start result }

@@ -1,11 +1,13 @@
 //! The laws of stocks that tell.
 //!
 //! A law is a function that does nothing: its contract is the law.
-ghost use Rattle.std.specs.Prelude.{◌≤◌, ◌<◌, ◌+◌, ℕ, length};
+ghost use Rattle.std.specs.Prelude.{◌≢◌, ◌≤◌, ◌<◌, ◌+◌, ℕ, List, length};
 ghost use Rattle.cn_table.specs.TypeTable.{IsClosed, TypeTable};
 ghost use Rattle.cn_choice.specs.Discerning.{IsDiscerning};
 ghost use Rattle.cn_stocks.specs.Lasting.{NoneLast};
-ghost use Rattle.cn_stocks.specs.Splits.{SomeSplits};
+ghost use Rattle.cn_stocks.specs.Splits.{SomeSplits, SplitsFrom, StockSplits};
+ghost use Rattle.cn_stocks.specs.Words.{times};
+ghost use Rattle.cn_telling.specs.Rows.{HaveOneRow, SplitsByRows, replaced};
 ghost use Rattle.cn_telling.specs.Telling.{SomeTells};
 
 /// The states tell all but one operation. The greatest number of operations of which some stock
@@ -41,4 +43,24 @@ pub fn finite_stocks_that_tell_are_small()
     // promise: states-tell-all-but-one (NoneLast, SomeTells)
     ensures { (t : TypeTable) → IsClosed t → NoneLast t → (n : ℕ) → 3 ≤ n → length t.states < n
         → ¬ SomeTells t n }
+{}
+
+/// Of the operations that lead from each state to the same one a stock needs one alone, whatever
+/// their responses are:
+///
+/// - `replaced`: let a stock of three operations or more have two of these. If it splits, so does
+///   the stock with the first one in place of the second. The two are in one part, since behind
+///   either a third operation sees the same. What a word of the new stock shows, a word of the old
+///   one shows too: the second operation stands at some places of the first, but not at the place
+///   of the operation that is asked;
+/// - `rows`: so where some stock of at least 3 operations splits, one of as many operations does in
+///   which no two different ones lead from each state to the same one.
+pub fn one_operation_of_a_row_is_enough()
+    // promise: one-operation-of-a-row (HaveOneRow, StockSplits)
+    ensures replaced { (t : TypeTable) (start a b : ℕ) (stock : List ℕ) → a ≢ b → HaveOneRow t a b
+        → 3 ≤ length stock → 1 ≤ times a stock → 1 ≤ times b stock → StockSplits t start stock
+        → StockSplits t start (replaced a b stock) }
+    // promise: one-operation-of-a-row (SplitsByRows)
+    ensures rows { (t : TypeTable) (n start : ℕ) → 3 ≤ n → SplitsFrom t n start
+        → SplitsByRows t n start }
 {}

@@ -17,7 +17,7 @@ use std::thread::Threads;
 
 /// All stocks of one number of operations, and what words within each lead to.
 #[derive(Drop)]
-pub(crate) struct Level {
+pub struct Level {
     pub stocks: Stocks,
     /// For each stock the states from which it tells.
     pub starts: Vec<u16>,

@@ -13,15 +13,16 @@
 //! ```
 #![tactic(auto)]
 
-mod cells;
-mod ends;
+pub mod cells;
+pub mod ends;
 mod exact;
-mod joins;
+pub mod joins;
 pub mod laws;
-mod levels;
+pub mod levels;
 mod meetings;
-mod search;
-mod shown;
+mod rows;
+pub mod search;
+pub mod shown;
 mod stock_splits;
 mod told;
 

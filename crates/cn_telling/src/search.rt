@@ -10,7 +10,7 @@ use std::thread::Threads;
 
 /// How far a search has come: all stocks of one number of operations, over those of one less.
 #[derive(Drop)]
-pub(crate) struct Search {
+pub struct Search {
     pub below: Level,
     pub stocks: Stocks,
     /// For each stock the states from which it tells.
@@ -71,7 +71,9 @@ impl Search {
         threading: Threading,
     ) -> Result<Level, AllocError>
         requires { IsSearch table.now n self }
-        ensures { IfOk result (IsLevelOf table.now n) }
+        ensures level { IfOk result (IsLevelOf table.now n) }
+        ensures same { IfOk result (λ level. level.stocks.list.items
+            ≡ self.stocks.list.items) }
     {
         let _n = n;
         let here = self.stocks.list.as_slice();
@@ -94,7 +96,9 @@ impl Search {
     ) -> Result<Search, AllocError>
         requires search { IsSearch table.now n self }
         requires short { n < MOST_SIZE }
-        ensures { IfOk result (IsSearch table.now (n + 1)) }
+        ensures search { IfOk result (IsSearch table.now (n + 1)) }
+        ensures below { IfOk result (λ next. next.below.stocks.list.items
+            ≡ self.stocks.list.items) }
     {
         let below = self.into_level(rt, alloc, table, n, threading)?;
         let stocks = below.stocks.longer(alloc, table.operations(), n)?;

@@ -13,7 +13,7 @@ use std::alloc::{AllocError, Global};
 
 /// The pairs that words within a stock show one operation.
 #[derive(Clone, Copy)]
-pub(crate) struct Shown {
+pub struct Shown {
     /// For each start state the set of these.
     pub pairs: [PairSet; MOST_STATES],
 }
@@ -39,7 +39,7 @@ impl Shown {
 /// A stock, an operation, and the pairs that words within the stocks of one operation less show the
 /// operation.
 #[derive(Clone, Copy)]
-pub(crate) struct Asking<'s> {
+pub struct Asking<'s> {
     pub setting: Setting<'s>,
     pub asked: u8,
     /// By the places to which the stock links.
@@ -121,7 +121,7 @@ fn stock_shown(asking: &Asking<'_>) -> Shown
 }
 
 /// The pairs that words within the stock which begin with the first operation show the asked one.
-pub(crate) fn shown_by(asking: &Asking<'_>, start: u8, first: u8) -> PairSet
+pub fn shown_by(asking: &Asking<'_>, start: u8, first: u8) -> PairSet
     requires asking { IsAsking asking.now }
     requires start { start < length asking.now.setting.table.now.states }
     requires first { first < length asking.now.setting.table.now.operations }
@@ -142,11 +142,7 @@ pub(crate) fn shown_by(asking: &Asking<'_>, start: u8, first: u8) -> PairSet
 }
 
 /// The ends of each of the stocks.
-pub(crate) fn cell_ends(
-    alloc: Global,
-    table: &Table,
-    cells: &[Stock],
-) -> Result<Vec<Ends>, AllocError>
+pub fn cell_ends(alloc: Global, table: &Table, cells: &[Stock]) -> Result<Vec<Ends>, AllocError>
     requires { AreCellsOver table.now cells.now }
     ensures count { IfOk result (λ ends. length ends.items ≡ length cells.now) }
     ensures ends { IfOk result (λ ends. AreEndsOf table.now cells.now ends.items) }
@@ -165,7 +161,7 @@ pub(crate) fn cell_ends(
 }
 
 /// The pairs that words within each of the stocks show the operation.
-pub(crate) fn cell_shown(
+pub fn cell_shown(
     alloc: Global,
     table: &Table,
     cells: &[Stock],

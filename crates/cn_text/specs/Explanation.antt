@@ -21,7 +21,7 @@ use Rattle.cn_sentences.specs.Numbers.{number_words}
 use Rattle.cn_sentences.specs.Shortest.{shortest_line}
 use Rattle.cn_sentences.specs.declared.shortest.ShortestCost.{ShortestCost}
 use Rattle.cn_text.specs.Folded.{folded}
-use Rattle.cn_text.specs.Reasons.{each_number_line, example_line, no_list, single_line, start_text}
+use Rattle.cn_text.specs.Reasons.{each_number_line, example_line, not_listed, single_line, start_text}
 use Rattle.cn_text.specs.Reasons.{states_line, ways_end, ways_words, witness_line}
 use Rattle.cn_text.specs.Views.{views_text}
 use Rattle.cn_text.specs.Ways.{numbered, way_text}
@@ -102,10 +102,10 @@ refutation_text e r =
     ++ ((if with_ways e.number e.rule e.all then ways_part e r else []) ++ []))))
 
 -- with no refutation: that no more was looked for, or that it is not listed
-abbrev pub not_refuted : ℕ → TypeNumber → List ℕ
-not_refuted limit (UpTo most number) = limit_line limit
-not_refuted limit (Exact (Finite n)) = no_list (n + 1)
-not_refuted limit (Exact Infinite) = each_number_line
+abbrev pub not_refuted : TypeTable → ℕ → TypeNumber → List ℕ
+not_refuted t limit (UpTo most number) = limit_line limit
+not_refuted t limit (Exact (Finite n)) = not_listed (length t.states) (n + 1)
+not_refuted t limit (Exact Infinite) = each_number_line
 
 -- what is refuted is told of a number up to a limit, and of a finite one
 abbrev pub tells_refutation : TypeNumber → Bool
@@ -114,9 +114,10 @@ tells_refutation (Exact (Finite n)) = true
 tells_refutation (Exact Infinite) = false
 
 abbrev pub no_more : Explanation → Option (Refutation Way) → List ℕ
-no_more e None = not_refuted e.limit e.number
+no_more e None = not_refuted e.table e.limit e.number
 no_more e (Some r) =
-    if tells_refutation e.number then refutation_text e r else not_refuted e.limit e.number
+    if tells_refutation e.number then refutation_text e r
+    else not_refuted e.table e.limit e.number
 
 -- ---- the pairs that do not interfere
 

@@ -1,6 +1,6 @@
 -- What explanations of both kinds of numbers say: the number and the table, the line of a witness, and
 -- the words around the ways.
-use Rattle.std.specs.Prelude.{ℕ, List, [], ◌++◌, ◌==◌, codes, Bool, false, if◌then◌else◌}
+use Rattle.std.specs.Prelude.{ℕ, List, [], ◌++◌, ◌==◌, codes, Bool, false, if◌then◌else◌, nat_lt}
 use Rattle.std.specs.Fmt.{decimal}
 use Rattle.cn_table.specs.Names.{name_at}
 use Rattle.cn_table.specs.TypeTable.{TypeTable}
@@ -81,6 +81,15 @@ theorem_line kind n = codes "No protocol " ++ (kind ++ (codes " does it for "
 unfoldable pub no_list : ℕ → List ℕ
 no_list n = codes "Why not " ++ (decimal n ++ (codes ": its ways are not listed here.\n"
     ++ (theorem_line (codes "at all") n ++ [])))
+
+-- why not n, of a type with fewer states of which no two operations last
+unfoldable pub few_states : ℕ → ℕ → List ℕ
+few_states n states = codes "Why not " ++ (decimal n ++ (codes ": it has " ++ (decimal states
+    ++ (codes " states and no two operations that last.\n" ++ (theorem_line (codes "at all") n ++ [])))))
+
+-- why a finite number is not n: that n is above the number of states, or that it is not listed
+abbrev pub not_listed : ℕ → ℕ → List ℕ
+not_listed states n = if nat_lt states n then few_states n states else no_list n
 
 abbrev pub each_number_line : List ℕ
 each_number_line = codes "It is so for each number of processes: this is proved (docs/PROVED.md).\n"

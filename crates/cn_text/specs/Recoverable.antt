@@ -1,6 +1,6 @@
 -- The text of an explanation of a recoverable number: the number, the table, why the number is so
 -- much, and why it is no more.
-use Rattle.std.specs.Prelude.{ℕ, ◌+◌, List, [], ◌++◌, codes, Option, Some, None}
+use Rattle.std.specs.Prelude.{ℕ, ◌+◌, List, [], ◌++◌, length, codes, Option, Some, None}
 use Rattle.std.specs.Fmt.{decimal}
 use Rattle.cn_table.specs.Names.{name_at}
 use Rattle.cn_table.specs.TypeTable.{TypeTable}
@@ -15,7 +15,7 @@ use Rattle.cn_reasons.specs.declared.recoverable.RecoverableExplanation.{Recover
 use Rattle.cn_reasons.specs.declared.refutation.Refutation.{Refutation}
 use Rattle.cn_sentences.specs.Lines.{alone_line, reader_line}
 use Rattle.cn_text.specs.Folded.{folded}
-use Rattle.cn_text.specs.Reasons.{each_number_line, example_line, no_list, start_text, states_line}
+use Rattle.cn_text.specs.Reasons.{each_number_line, example_line, not_listed, start_text, states_line}
 use Rattle.cn_text.specs.Reasons.{ways_end, ways_words, witness_line}
 use Rattle.cn_text.specs.Ways.{numbered, recoverable_way_text}
 use Rattle.cn_text.specs.declared.limits.TheConstants.{LIVE_VERSION}
@@ -54,12 +54,12 @@ refutation_text t r =
     ++ (ways_end r.more LIVE_VERSION r.processes ++ [])))))
 
 -- with no refutation: that every number has a witness, or that the ways are not listed
-abbrev pub not_refuted : ConsensusNumber → List ℕ
-not_refuted Infinite = each_number_line
-not_refuted (Finite n) = no_list (n + 1)
+abbrev pub not_refuted : TypeTable → ConsensusNumber → List ℕ
+not_refuted t Infinite = each_number_line
+not_refuted t (Finite n) = not_listed (length t.states) (n + 1)
 
 abbrev pub no_more : TypeTable → ConsensusNumber → Option (Refutation RecoverableWay) → List ℕ
-no_more t number None = not_refuted number
+no_more t number None = not_refuted t number
 no_more t number (Some r) = refutation_text t r
 
 -- ---- all of it

@@ -11,7 +11,7 @@ ghost use Rattle.cn_text.specs.declared.reasons.NumberKind.TheVariants.{Readable
 use crate::folded::push_folded;
 use crate::limits::MOST_APART;
 use crate::reasons::{
-    NumberKind, push_each_number, push_example, push_no_list, push_single_line, push_start,
+    NumberKind, push_each_number, push_example, push_not_listed, push_single_line, push_start,
     push_states_line, push_ways_end, push_ways_words, push_witness_line,
 };
 use crate::views::push_views;
@@ -225,13 +225,20 @@ fn push_refutation(
 }
 
 /// Why the number is no more, with no refutation.
-fn push_not_refuted(text: &mut String, limit: u8, number: TypeNumber) -> Result<(), AllocError>
+fn push_not_refuted(
+    text: &mut String,
+    table: &Table,
+    limit: u8,
+    number: TypeNumber,
+) -> Result<(), AllocError>
     ensures { OnOk result (string_bytes text.new
-        ≡ string_bytes text.old ++ not_refuted limit number) }
+        ≡ string_bytes text.old ++ not_refuted table.now limit number) }
 {
     match number {
         TypeNumber::UpTo(_, _) => push_limit_line(text, limit),
-        TypeNumber::Exact(ConsensusNumber::Finite(n)) => push_no_list(text, n as u16 + 1),
+        TypeNumber::Exact(ConsensusNumber::Finite(n)) => {
+            push_not_listed(text, table.states(), n as u16 + 1)
+        }
         TypeNumber::Exact(ConsensusNumber::Infinite) => push_each_number(text),
     }
 }
@@ -256,7 +263,12 @@ fn push_no_more(text: &mut String, explanation: &Explanation) -> Result<(), Allo
         Some(refutation) if tells_refutation(explanation.number) => {
             push_refutation(text, explanation, refutation)
         }
-        _ => push_not_refuted(text, explanation.limit, explanation.number),
+        _ => push_not_refuted(
+            text,
+            &explanation.table,
+            explanation.limit,
+            explanation.number,
+        ),
     }
 }
 

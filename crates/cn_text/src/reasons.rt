@@ -3,7 +3,7 @@
 ghost use Rattle.std.specs.Prelude.{◌≡◌, [], ◌++◌, codes, string_bytes, All, OnOk};
 ghost use Rattle.cn_reasons.specs.Known.{IsKnownChoice, IsKnownState};
 ghost use Rattle.cn_text.specs.Grid.{cells_text};
-ghost use Rattle.cn_text.specs.Reasons.{each_number_line, example_line, is_exactly, kind_words, left_out, more_line, no_list, number_line, readers, said_for, single_line, start_text, states_line, theorem_line, ways_end, ways_notes, ways_words, witness_line};
+ghost use Rattle.cn_text.specs.Reasons.{each_number_line, example_line, few_states, is_exactly, kind_words, left_out, more_line, no_list, not_listed, number_line, readers, said_for, single_line, start_text, states_line, theorem_line, ways_end, ways_notes, ways_words, witness_line};
 
 use crate::folded::push_folded;
 use crate::grid::push_cells;
@@ -219,12 +219,39 @@ pub(crate) fn push_theorem(text: &mut String, kind: &str, n: u16) -> Result<(), 
 }
 
 #[tactic(auto, unfolding(crate::specs::Reasons::no_list))]
-pub(crate) fn push_no_list(text: &mut String, n: u16) -> Result<(), AllocError>
+fn push_no_list(text: &mut String, n: u16) -> Result<(), AllocError>
     // promise: parts-of-explanations (no_list)
     ensures { OnOk result (string_bytes text.new ≡ string_bytes text.old ++ no_list n) }
 {
     write!(text, "Why not {n}: its ways are not listed here.\n")?;
     push_theorem(text, "at all", n)
+}
+
+/// Why not n, of a type with fewer states of which no two operations last
+/// ([`finite_numbers_are_few`](cn_stocks::lasting::laws::finite_numbers_are_few)).
+#[tactic(auto, unfolding(crate::specs::Reasons::few_states))]
+fn push_few_states(text: &mut String, n: u16, states: u8) -> Result<(), AllocError>
+    // promise: parts-of-explanations (few_states)
+    ensures { OnOk result (string_bytes text.new ≡ string_bytes text.old ++ few_states n states) }
+{
+    write!(
+        text,
+        "Why not {n}: it has {states} states and no two operations that last.\n"
+    )?;
+    push_theorem(text, "at all", n)
+}
+
+/// Why the finite number of a type with so many states is not n: that n is above them, or that its
+/// ways are not listed.
+pub(crate) fn push_not_listed(text: &mut String, states: u8, n: u16) -> Result<(), AllocError>
+    // promise: parts-of-explanations (not_listed)
+    ensures { OnOk result (string_bytes text.new ≡ string_bytes text.old ++ not_listed states n) }
+{
+    if (states as u16) < n {
+        push_few_states(text, n, states)
+    } else {
+        push_no_list(text, n)
+    }
 }
 
 pub(crate) fn push_each_number(text: &mut String) -> Result<(), AllocError>

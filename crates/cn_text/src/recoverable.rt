@@ -11,7 +11,7 @@ ghost use Rattle.cn_text.specs.Recoverable.{no_more, not_refuted, recoverable_te
 use crate::folded::push_folded;
 use crate::limits::LIVE_VERSION;
 use crate::reasons::{
-    NumberKind, push_each_number, push_example, push_no_list, push_start, push_states_line,
+    NumberKind, push_each_number, push_example, push_not_listed, push_start, push_states_line,
     push_ways_end, push_ways_words, push_witness_line,
 };
 use crate::ways::push_recoverable_ways;
@@ -100,12 +100,17 @@ fn push_refutation(
 }
 
 /// Why the number is no more, with no refutation.
-fn push_not_refuted(text: &mut String, number: ConsensusNumber) -> Result<(), AllocError>
-    ensures { OnOk result (string_bytes text.new ≡ string_bytes text.old ++ not_refuted number) }
+fn push_not_refuted(
+    text: &mut String,
+    table: &Table,
+    number: ConsensusNumber,
+) -> Result<(), AllocError>
+    ensures { OnOk result (string_bytes text.new
+        ≡ string_bytes text.old ++ not_refuted table.now number) }
 {
     match number {
         ConsensusNumber::Infinite => push_each_number(text),
-        ConsensusNumber::Finite(n) => push_no_list(text, n as u16 + 1),
+        ConsensusNumber::Finite(n) => push_not_listed(text, table.states(), n as u16 + 1),
     }
 }
 
@@ -122,7 +127,7 @@ fn push_no_more(
 {
     match refutation {
         Some(refutation) => push_refutation(text, table, refutation),
-        None => push_not_refuted(text, number),
+        None => push_not_refuted(text, table, number),
     }
 }
 

@@ -10,10 +10,12 @@ use Rattle.clap.specs.Walk.{Row, Text, first_of, one_of, row_text, rows_of}
 use Rattle.clap.specs.declared.parser.matches.Found.{Found}
 use Rattle.clap.proofs.WalkLemmas.{one_text-rows, raw_values-rows}
 use Rattle.cn_form.specs.declared.answer_form.DocumentForm.{DocumentForm}
+use Rattle.cn_form.specs.declared.answer_form.DocumentForm.TheVariants as document
 use Rattle.cn_form.specs.declared.plan_form.PlanForm.{PlanForm}
 use Rattle.cn_form.specs.declared.answer_form.AnswerForm.{AnswerForm}
+use Rattle.cn_form.specs.declared.answer_form.AnswerForm.TheVariants as answer
 use Rattle.cn_words.specs.declared.commands.Command.{Command}
-use Rattle.cn_words.specs.declared.commands.Command.TheVariants.{Find, FindUnread, FindShortest, FindStocks, Lint, Draw, Check, CheckUnread, CheckShortest, CheckStocks, Explain, Why, WhyRecoverable, WhyUnread, Pairs, Show, Agree, Replay, Serve}
+use Rattle.cn_words.specs.declared.commands.Command.TheVariants.{Find, FindUnread, FindShortest, FindStocks, Lint, Draw, Check, CheckUnread, CheckShortest, CheckStocks, Explain, ExplainStocks, Why, WhyRecoverable, WhyUnread, WhyStocks, Pairs, Show, Agree, Replay, Serve}
 use Rattle.cn_words.specs.declared.commands.Invocation.{Invocation}
 use Rattle.cn_words.specs.declared.commands.Invocation.TheVariants.{Classify, Lives, OfTable, ShortestPlan, ShortestRun}
 use Rattle.cn_words.specs.declared.commands.OpeningWords.{OpeningWords}
@@ -98,6 +100,16 @@ WantsLimit rows without_read recoverable =
     MatchBool without_read ((recoverable ≡ false) × (first_of (codes "limit") rows ≡ None))
     (MatchBool recoverable (first_of (codes "limit") rows ≡ None) ((n : Option ℕ) × HasLimit rows n))
 
+-- the same by stocks, and what it requires of the words for its form: by stocks it has a text alone
+abbrev pub WantsWhy : List Row → Bool → Bool → Bool → Type 0
+WantsWhy rows stocks without_read recoverable =
+    MatchBool stocks ((without_read ≡ false) × (recoverable ≡ false) × ((n : Option ℕ) × HasLimit rows n) × HasDocumentForm rows document.Text)
+    (WantsLimit rows without_read recoverable × ((form : DocumentForm) × HasDocumentForm rows form))
+
+-- what `explain` requires of the words for its form: by stocks it has a text alone
+abbrev pub WantsExplain : List Row → Bool → Type 0
+WantsExplain rows stocks = MatchBool stocks (HasAnswerForm rows answer.Text) ((form : AnswerForm) × HasAnswerForm rows form)
+
 -- what `find` requires of the words for its limit
 abbrev pub WantsFindLimit : List Row → Bool → Type 0
 WantsFindLimit rows without_read = MatchBool without_read (first_of (codes "limit") rows ≡ None) ((n : Option ℕ) × HasLimit rows n)
@@ -126,9 +138,9 @@ Wants name rows =
     (MatchBool (bytes_eq name (codes "lint")) ((form : AnswerForm) × HasAnswerForm rows form)
     (MatchBool (bytes_eq name (codes "draw")) (Unit {0})
     (MatchBool (bytes_eq name (codes "check")) (((w : TextSource) × HasCertificate rows w) × ((form : AnswerForm) × HasAnswerForm rows form) × (is_check_twofold rows ≡ false))
-    (MatchBool (bytes_eq name (codes "explain")) (((w : TextSource) × HasCertificate rows w) × ((form : AnswerForm) × HasAnswerForm rows form))
+    (MatchBool (bytes_eq name (codes "explain")) (((w : TextSource) × HasCertificate rows w) × WantsExplain rows (is_flag_set (codes "stocks") rows))
     (MatchBool (bytes_eq name (codes "why"))
-    (WantsLimit rows (is_flag_set (codes "without-read") rows) (is_flag_set (codes "recoverable") rows) × ((form : DocumentForm) × HasDocumentForm rows form))
+    (WantsWhy rows (is_flag_set (codes "stocks") rows) (is_flag_set (codes "without-read") rows) (is_flag_set (codes "recoverable") rows))
     (MatchBool (bytes_eq name (codes "pairs")) ((form : DocumentForm) × HasDocumentForm rows form)
     (MatchBool (bytes_eq name (codes "show")) (((w : TextSource) × HasCertificate rows w) × ((plan : PlanForm) × HasForm rows plan) × (excludes_certificate rows ≡ false))
     (MatchBool (bytes_eq name (codes "agree"))
@@ -141,6 +153,17 @@ Wants name rows =
 -- the same for the same flags
 pub limits : (rows : List Row) (w r d e : Bool) → w ≡ d → r ≡ e → WantsLimit rows d e → WantsLimit rows w r
 limits rows w r d e is_w is_r h = subst (λ b. WantsLimit rows b r) (sym is_w) (subst (λ b. WantsLimit rows d b) (sym is_r) h)
+
+explains : (rows : List Row) (k b : Bool) → k ≡ b → WantsExplain rows b → WantsExplain rows k
+explains rows k b is h = subst (WantsExplain rows) (sym is) h
+
+tells : (rows : List Row) (k w r d e : Bool) → k ≡ false → w ≡ d → r ≡ e
+    → WantsLimit rows d e × ((form : DocumentForm) × HasDocumentForm rows form) → WantsWhy rows k w r
+tells rows k w r d e is_k is_w is_r h = subst (λ b. WantsWhy rows b w r) (sym is_k) (limits rows w r d e is_w is_r h.0, h.1)
+
+tells_stocks : (rows : List Row) (k w r : Bool) → k ≡ true
+    → (w ≡ false) × (r ≡ false) × ((n : Option ℕ) × HasLimit rows n) × HasDocumentForm rows document.Text → WantsWhy rows k w r
+tells_stocks rows k w r is_k h = subst (λ b. WantsWhy rows b w r) (sym is_k) h
 
 finds : (rows : List Row) (k s w d e : Bool) → k ≡ false → s ≡ d → w ≡ e → WantsChoices rows d e → WantsFind rows k s w
 finds rows k s w d e is_k is_s is_w h =
@@ -188,13 +211,18 @@ wants name rows (CheckShortest certificate form) h =
     subst (λ n. Wants n rows) (sym h.0) ((certificate, h.1.0), (form, h.1.1), one_alone _ _ _ (inl (h.1.4, inr h.1.2)))
 wants name rows (CheckStocks certificate form) h =
     subst (λ n. Wants n rows) (sym h.0) ((certificate, h.1.0), (form, h.1.1), one_alone _ _ _ (inr (h.1.2, h.1.3)))
-wants name rows (Explain certificate all form) h = subst (λ n. Wants n rows) (sym h.0) ((certificate, h.1.0), (form, h.1.2))
+wants name rows (Explain certificate all form) h =
+    subst (λ n. Wants n rows) (sym h.0) ((certificate, h.1.0), explains rows _ false h.1.3 (form, h.1.2))
+wants name rows (ExplainStocks certificate all) h =
+    subst (λ n. Wants n rows) (sym h.0) ((certificate, h.1.0), explains rows _ true h.1.3 h.1.2)
 wants name rows (Why limit all form) h =
-    subst (λ n. Wants n rows) (sym h.0) (limits rows _ _ false false h.1.4 h.1.3 (limit, h.1.0), (form, h.1.2))
+    subst (λ n. Wants n rows) (sym h.0) (tells rows _ _ _ false false h.1.5 h.1.4 h.1.3 ((limit, h.1.0), (form, h.1.2)))
 wants name rows (WhyRecoverable all form) h =
-    subst (λ n. Wants n rows) (sym h.0) (limits rows _ _ false true h.1.1 h.1.0 h.1.2, (form, h.1.4))
+    subst (λ n. Wants n rows) (sym h.0) (tells rows _ _ _ false true h.1.5 h.1.1 h.1.0 (h.1.2, (form, h.1.4)))
 wants name rows (WhyUnread all form) h =
-    subst (λ n. Wants n rows) (sym h.0) (limits rows _ _ true false h.1.0 h.1.1 (refl, h.1.2), (form, h.1.4))
+    subst (λ n. Wants n rows) (sym h.0) (tells rows _ _ _ true false h.1.5 h.1.0 h.1.1 ((refl, h.1.2), (form, h.1.4)))
+wants name rows (WhyStocks limit all) h =
+    subst (λ n. Wants n rows) (sym h.0) (tells_stocks rows _ _ _ h.1.5 (h.1.4, h.1.3, (limit, h.1.0), h.1.2))
 wants name rows (Pairs form) h = subst (λ n. Wants n rows) (sym h.0) (form, h.1)
 wants name rows (Show certificate plan) h = subst (λ n. Wants n rows) (sym h.0) ((certificate, h.1.0), (plan, h.1.1), h.1.2)
 wants name rows (Agree certificate inputs schedule steps form) h =

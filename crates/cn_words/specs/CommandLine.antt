@@ -139,12 +139,13 @@ check_words forms = command_with (codes "check")
 
 abbrev pub explain_words : ValueParser → Shape
 explain_words forms = command_with (codes "explain")
-    (certificate_word ∷ flag (codes "all") ∷ form_option forms ∷ table_option ∷ file_word ∷ [])
+    (certificate_word ∷ flag (codes "stocks") ∷ flag (codes "all") ∷ form_option forms
+    ∷ table_option ∷ file_word ∷ [])
 
 abbrev pub why_words : ValueParser → Shape
 why_words forms = command_with (codes "why")
-    (table_word ∷ limit_option ∷ flag (codes "recoverable") ∷ flag (codes "without-read")
-    ∷ flag (codes "all") ∷ form_option forms ∷ [])
+    (table_word ∷ limit_option ∷ flag (codes "stocks") ∷ flag (codes "recoverable")
+    ∷ flag (codes "without-read") ∷ flag (codes "all") ∷ form_option forms ∷ [])
 
 abbrev pub pairs_words : ValueParser → Shape
 pairs_words forms = command_with (codes "pairs") (table_word ∷ form_option forms ∷ [])

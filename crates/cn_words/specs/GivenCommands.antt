@@ -21,6 +21,7 @@ use Rattle.cn_words.specs.declared.commands.Command.TheVariants.{Draw, Check, Ch
 use Rattle.cn_words.specs.declared.commands.Command.TheVariants.{CheckShortest, FindShortest}
 use Rattle.cn_words.specs.declared.commands.Command.TheVariants.{CheckStocks, FindStocks}
 use Rattle.cn_words.specs.declared.commands.Command.TheVariants.{Explain, Why, WhyRecoverable}
+use Rattle.cn_words.specs.declared.commands.Command.TheVariants.{ExplainStocks, WhyStocks}
 use Rattle.cn_words.specs.declared.commands.Command.TheVariants.{WhyUnread, Pairs, Show, Agree}
 use Rattle.cn_words.specs.declared.commands.Command.TheVariants.{Replay, Serve}
 use Rattle.cn_words.specs.declared.commands.CommandFault.{CommandFault}
@@ -207,9 +208,11 @@ name_of (CheckUnread certificate form) = codes "check"
 name_of (CheckShortest certificate form) = codes "check"
 name_of (CheckStocks certificate form) = codes "check"
 name_of (Explain certificate all form) = codes "explain"
+name_of (ExplainStocks certificate all) = codes "explain"
 name_of (Why limit all form) = codes "why"
 name_of (WhyRecoverable all form) = codes "why"
 name_of (WhyUnread all form) = codes "why"
+name_of (WhyStocks limit all) = codes "why"
 name_of (Pairs form) = codes "pairs"
 name_of (Show certificate plan) = codes "show"
 name_of (Agree certificate inputs schedule steps form) = codes "agree"
@@ -255,18 +258,30 @@ HasArguments rows (CheckStocks certificate form) =
     × (is_flag_set (codes "stocks") rows ≡ true)
 HasArguments rows (Explain certificate all form) =
     HasCertificate rows certificate × HasFlag (codes "all") rows all × HasAnswerForm rows form
+    × (is_flag_set (codes "stocks") rows ≡ false)
+HasArguments rows (ExplainStocks certificate all) =
+    HasCertificate rows certificate × HasFlag (codes "all") rows all
+    × HasAnswerForm rows answer.Text × (is_flag_set (codes "stocks") rows ≡ true)
 HasArguments rows (Why limit all form) =
     HasLimit rows limit × HasFlag (codes "all") rows all × HasDocumentForm rows form
     × (is_flag_set (codes "recoverable") rows ≡ false)
     × (is_flag_set (codes "without-read") rows ≡ false)
+    × (is_flag_set (codes "stocks") rows ≡ false)
 HasArguments rows (WhyRecoverable all form) =
     (is_flag_set (codes "recoverable") rows ≡ true)
     × (is_flag_set (codes "without-read") rows ≡ false) × (first_of (codes "limit") rows ≡ None)
     × HasFlag (codes "all") rows all × HasDocumentForm rows form
+    × (is_flag_set (codes "stocks") rows ≡ false)
 HasArguments rows (WhyUnread all form) =
     (is_flag_set (codes "without-read") rows ≡ true)
     × (is_flag_set (codes "recoverable") rows ≡ false) × (first_of (codes "limit") rows ≡ None)
     × HasFlag (codes "all") rows all × HasDocumentForm rows form
+    × (is_flag_set (codes "stocks") rows ≡ false)
+HasArguments rows (WhyStocks limit all) =
+    HasLimit rows limit × HasFlag (codes "all") rows all × HasDocumentForm rows document.Text
+    × (is_flag_set (codes "recoverable") rows ≡ false)
+    × (is_flag_set (codes "without-read") rows ≡ false)
+    × (is_flag_set (codes "stocks") rows ≡ true)
 HasArguments rows (Pairs form) = HasDocumentForm rows form
 HasArguments rows (Show certificate plan) =
     HasCertificate rows certificate × HasForm rows plan × (excludes_certificate rows ≡ false)

@@ -6,7 +6,7 @@ ghost use Rattle.cn_words.specs.GivenCommands.{Finds, HasAnswerForm, HasCertific
 ghost use Rattle.cn_words.specs.declared.commands.CommandFault.TheVariants.{OutOfMemory};
 
 use crate::plan_certificates::{check_shortest, find_shortest};
-use crate::stock_certificates::{check_stocks, find_stocks};
+use crate::stock_certificates::{check_stocks, explain_stocks, find_stocks, why_stocks};
 use crate::without_certificate::{
     RunWords, asks_for_shortest, excludes_certificate, is_flag_set, is_of_plan, plan_table,
     run_table, run_words,
@@ -102,6 +102,13 @@ pub enum Command<'a> {
         /// The form of the answer.
         form: AnswerForm,
     },
+    /// Explains the bounds of the certificate by stocks.
+    ExplainStocks {
+        /// The certificate.
+        certificate: TextSource<'a>,
+        /// Whether all joins are told.
+        all: bool,
+    },
     /// Tells why the type has its number, up to the limit if one was given.
     Why {
         /// The greatest number looked for, if one was given.
@@ -124,6 +131,14 @@ pub enum Command<'a> {
         all: bool,
         /// The form of the answer.
         form: DocumentForm,
+    },
+    /// Tells by a certificate by stocks why the type has its number, up to the limit if one was
+    /// given.
+    WhyStocks {
+        /// The greatest number looked for, if one was given.
+        limit: Option<u8>,
+        /// Whether all joins are told.
+        all: bool,
     },
     /// Writes the numbers of the operations of the type and of their pairs.
     Pairs {
@@ -319,7 +334,7 @@ pub(crate) fn answer_form(words: &ArgMatches<'_>) -> Option<AnswerForm>
     }
 }
 
-fn document_form(words: &ArgMatches<'_>) -> Option<DocumentForm>
+pub(crate) fn document_form(words: &ArgMatches<'_>) -> Option<DocumentForm>
     ensures { Finds (HasDocumentForm (rows_in words.now)) result }
 {
     match word(words, "as")? {
@@ -477,6 +492,9 @@ fn check<'a>(words: &ArgMatches<'a>) -> Option<Command<'a>>
 fn explain<'a>(words: &ArgMatches<'a>) -> Option<Command<'a>>
     ensures { Finds (IsNamed (codes "explain") (rows_in words.now)) result }
 {
+    if is_by_stocks(words) {
+        return explain_stocks(words);
+    }
     Some(Command::Explain {
         certificate: certificate(words)?,
         all: words.get_flag("all"),
@@ -486,6 +504,7 @@ fn explain<'a>(words: &ArgMatches<'a>) -> Option<Command<'a>>
 
 // The recoverable number has no limit.
 fn why_recoverable<'a>(words: &ArgMatches<'a>) -> Option<Command<'a>>
+    requires choices { is_flag_set (codes "stocks") (rows_in words.now) ≡ false }
     requires with_reads { is_flag_set (codes "without-read") (rows_in words.now) ≡ false }
     requires recoverable { is_flag_set (codes "recoverable") (rows_in words.now) ≡ true }
     ensures { Finds (IsNamed (codes "why") (rows_in words.now)) result }
@@ -500,7 +519,8 @@ fn why_recoverable<'a>(words: &ArgMatches<'a>) -> Option<Command<'a>>
 
 // The number without reads has no limit, and is not the recoverable number.
 fn why_unread<'a>(words: &ArgMatches<'a>) -> Option<Command<'a>>
-    requires { is_flag_set (codes "without-read") (rows_in words.now) ≡ true }
+    requires choices { is_flag_set (codes "stocks") (rows_in words.now) ≡ false }
+    requires unread { is_flag_set (codes "without-read") (rows_in words.now) ≡ true }
     ensures { Finds (IsNamed (codes "why") (rows_in words.now)) result }
 {
     if is_flag_set(words, "recoverable") || word(words, "limit").is_some() {
@@ -514,6 +534,9 @@ fn why_unread<'a>(words: &ArgMatches<'a>) -> Option<Command<'a>>
 fn why<'a>(words: &ArgMatches<'a>) -> Option<Command<'a>>
     ensures { Finds (IsNamed (codes "why") (rows_in words.now)) result }
 {
+    if is_by_stocks(words) {
+        return why_stocks(words);
+    }
     if is_unread(words) {
         return why_unread(words);
     }

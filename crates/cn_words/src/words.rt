@@ -36,7 +36,7 @@ Example:
     };
 }
 
-const VERSION: &str = "0.2.0, proved by rattle-kit-13b logic dac8208d650f15bf";
+const VERSION: &str = "0.2.0, proved by rattle-kit-13f logic dac8208d650f15bf";
 
 const ABOUT: &str = "Finds and checks the consensus number of a shared object type";
 
@@ -77,8 +77,8 @@ that for every greater limit too.
 With --stocks writes a certificate of another form, which is much shorter and which no type is too
 large for. Against one process more it has joins: two runs that begin with different operations, after
 which some process sees the same, so that both operations are in one team. Joins within a stock of
-operations that connect all of these leave no two teams. Without --limit a finite number has the
-bounds of --limit 8; infinite is told by two operations that last.
+operations that connect all of these leave no two teams. Without --limit a finite number has both
+bounds, 16 the lower one alone; infinite is told by two operations that last.
 
 With --without-read writes a certificate of bounds of the number for objects that are not read, with
 the evidence for each. They may be wider than what classify --without-read writes: of the greatest
@@ -194,6 +194,11 @@ these choices the first 12 are told, with --all all of them. Where any two opera
 number by themselves, it says so, too. It names the pairs of operations of which in some state
 neither wipes out the other and the order matters, if the number is above 2 and they are few.
 
+With --stocks CERT is a certificate that find --stocks writes, or another one of its form. Writes the
+number or its bounds; the witness, or two operations that last; and a line for each join: where some
+process sees the same after two runs, so that the operations that these begin with are in one team.
+Of the joins the first 12 are told, with --all all of them. It has no form but text.
+
 With --as json this is one JSON object.
 
 ",
@@ -227,6 +232,10 @@ writes: how each process tells, by its response or by looking, which team was fi
 process more two runs in which some process gets the same, of the first choice or, with --all, of
 each. No read is added: list every way to look at the object, and exactly what each operation
 answers. Neither --limit nor --recoverable stands beside it.
+
+With --stocks finds the certificate that find --stocks writes, with a limit or with none, and writes of
+it what explain --stocks writes. No type is too large for it. It has no form but text. Neither
+--recoverable nor --without-read stands beside it.
 
 With --as markdown writes the number, its reason, the table and the witness for a document; with
 --as json all of it is one JSON object.
@@ -625,8 +634,10 @@ fn all<'a>(alloc: Global) -> Arg<'a>
 fn explain<'a>(alloc: Global) -> Result<Command<'a>, AllocError>
     ensures { IfOk result (IsCommandFor answer_forms explain_words) }
 {
+    let stocks = "Explains a certificate by stocks";
     let help = "The form in which the reasons are written";
     let command = with_certificate(alloc, "explain", EXPLAIN_ABOUT, EXPLAIN_AFTER);
+    let command = with_argument(command, flag(alloc, "stocks", stocks));
     let command = with_argument(command, all(alloc));
     let command = with_argument(command, form(alloc, &ANSWER_FORMS, help));
     with_table(alloc, command)
@@ -635,12 +646,14 @@ fn explain<'a>(alloc: Global) -> Result<Command<'a>, AllocError>
 fn why<'a>(alloc: Global) -> Result<Command<'a>, AllocError>
     ensures { IfOk result (IsCommandFor document_forms why_words) }
 {
+    let stocks = "Tells it by a certificate by stocks, for every type";
     let recoverable = "Tells why the recoverable number is what it is, with no limit";
     let without_read = "Tells why the number without reads is what it is, with no limit";
     let help = "The form in which the reasons are written";
     let command = bare_command(alloc, "why", WHY_ABOUT, WHY_AFTER);
     let command = with_argument(Ok(command), table_word(alloc));
     let command = with_argument(command, limit(alloc));
+    let command = with_argument(command, flag(alloc, "stocks", stocks));
     let command = with_argument(command, flag(alloc, "recoverable", recoverable));
     let command = with_argument(command, flag(alloc, "without-read", without_read));
     let command = with_argument(command, all(alloc));

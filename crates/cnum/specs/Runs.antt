@@ -6,6 +6,7 @@ use Rattle.cn_words.specs.declared.commands.Command.TheVariants.{Draw, Check, Ch
 use Rattle.cn_words.specs.declared.commands.Command.TheVariants.{CheckShortest, FindShortest}
 use Rattle.cn_words.specs.declared.commands.Command.TheVariants.{CheckStocks, FindStocks}
 use Rattle.cn_words.specs.declared.commands.Command.TheVariants.{Explain, Why, WhyRecoverable}
+use Rattle.cn_words.specs.declared.commands.Command.TheVariants.{ExplainStocks, WhyStocks}
 use Rattle.cn_words.specs.declared.commands.Command.TheVariants.{WhyUnread, Pairs, Show, Agree}
 use Rattle.cn_words.specs.declared.commands.Command.TheVariants.{Replay, Serve}
 use Rattle.cn_words.specs.declared.commands.OpeningWords.{OpeningWords}
@@ -20,6 +21,7 @@ use Rattle.cn_app.specs.Commands.CheckStocks.{HasCheckStocksReport}
 use Rattle.cn_app.specs.Commands.CheckUnread.{HasCheckUnreadReport}
 use Rattle.cn_app.specs.Commands.Draw.{HasDrawReport}
 use Rattle.cn_app.specs.Commands.Explain.{HasExplainReport}
+use Rattle.cn_app.specs.Commands.ExplainStocks.{HasExplainStocksReport}
 use Rattle.cn_app.specs.Commands.Find.{HasFindReport}
 use Rattle.cn_app.specs.Commands.FindShortest.{HasFindShortestReport}
 use Rattle.cn_app.specs.Commands.FindStocks.{HasFindStocksReport}
@@ -31,6 +33,7 @@ use Rattle.cn_app.specs.Commands.Serve.{HasServeReport, SpellCalls}
 use Rattle.cn_app.specs.Commands.Show.{HasShowReport}
 use Rattle.cn_app.specs.Commands.Why.{HasWhyReport}
 use Rattle.cn_app.specs.Commands.WhyRecoverable.{HasWhyRecoverableReport}
+use Rattle.cn_app.specs.Commands.WhyStocks.{HasWhyStocksReport}
 use Rattle.cn_app.specs.Commands.WhyUnread.{HasWhyUnreadReport}
 use Rattle.cn_io.specs.Streams.Reading.{HasRead}
 use Rattle.cn_io.specs.Streams.Writing.{IsSilent, Reports}
@@ -64,12 +67,14 @@ certificate_of Draw = None
 certificate_of (Why limit all form) = None
 certificate_of (WhyRecoverable all form) = None
 certificate_of (WhyUnread all form) = None
+certificate_of (WhyStocks limit all) = None
 certificate_of (Pairs form) = None
 certificate_of (Check certificate form) = Some certificate
 certificate_of (CheckUnread certificate form) = Some certificate
 certificate_of (CheckShortest certificate form) = Some certificate
 certificate_of (CheckStocks certificate form) = Some certificate
 certificate_of (Explain certificate all form) = Some certificate
+certificate_of (ExplainStocks certificate all) = Some certificate
 certificate_of (Show certificate form) = Some certificate
 certificate_of (Agree certificate inputs schedule steps form) = Some certificate
 certificate_of (Replay opening events form) = Some opening.certificate
@@ -182,6 +187,9 @@ module _ {S D F W : Type 0} (remaining : S → Option (List ℕ)) (left : LazyFi
   RunsOn stdin table (FindStocks limit) u v r =
       ReadsTable (left_of remaining left) (left_of remaining left) left contents files table
       (λ t. HasFindStocksReport t limit) u v r
+  RunsOn stdin table (WhyStocks limit all) u v r =
+      ReadsTable (left_of remaining left) (left_of remaining left) left contents files table
+      (λ t. HasWhyStocksReport t limit all) u v r
   RunsOn stdin table (Lint form) u v r = ReadsTable (left_of remaining left)
       (left_of remaining left) left contents files table (λ t. HasLintReport t form) u v r
   RunsOn stdin table Draw u v r = ReadsTable (left_of remaining left) (left_of remaining left) left
@@ -210,6 +218,9 @@ module _ {S D F W : Type 0} (remaining : S → Option (List ℕ)) (left : LazyFi
   RunsOn stdin table (CheckStocks certificate form) u v r = With stdin certificate
       (λ c. ReadsBoth (left_of remaining left) (left_of remaining left) left contents files table c
       (Unit {0}) (λ t d. HasCheckStocksReport t d form) u v r)
+  RunsOn stdin table (ExplainStocks certificate all) u v r = With stdin certificate
+      (λ c. ReadsBoth (left_of remaining left) (left_of remaining left) left contents files table c
+      (Unit {0}) (λ t d. HasExplainStocksReport t d all) u v r)
   RunsOn stdin table (Explain certificate all form) u v r = With stdin certificate
       (λ c. ReadsBoth (left_of remaining left) (left_of remaining left) left contents files table c
       (Unit {0}) (λ t d. HasExplainReport t d all form) u v r)

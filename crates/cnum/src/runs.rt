@@ -231,6 +231,7 @@ fn certificate_of<'a>(command: &Command<'a>) -> Option<TextSource<'a>>
         | Command::CheckShortest { certificate, .. }
         | Command::CheckStocks { certificate, .. }
         | Command::Explain { certificate, .. }
+        | Command::ExplainStocks { certificate, .. }
         | Command::Show { certificate, .. }
         | Command::Agree { certificate, .. } => Some(certificate),
         Command::Replay { opening, .. } | Command::Serve { opening, .. } => {
@@ -271,6 +272,9 @@ fn run_on_table<T: Threads + Sync + Disk, S: Read + Copy, O: Write>(
         }
         Command::WhyUnread { all, form } => {
             commands::why_unread(rt, alloc, table, output, all, form)
+        }
+        Command::WhyStocks { limit, all } => {
+            commands::why_stocks(rt, alloc, table, output, limit, all)
         }
         Command::Pairs { form } => commands::pairs(rt, alloc, table, output, form),
         // The command reads no certificate.
@@ -315,6 +319,10 @@ fn run_on_both<T: Threads + Wait + Sync + Disk, S: Read + Copy + Drop, O: Write>
         }
         Command::Explain { all, form, .. } => {
             let end = commands::explain(alloc, &mut table, &mut certificate, output, all, form);
+            noting_table(alloc, known, &table, end)
+        }
+        Command::ExplainStocks { all, .. } => {
+            let end = commands::explain_stocks(alloc, &mut table, &mut certificate, output, all);
             noting_table(alloc, known, &table, end)
         }
         Command::Show { form, .. } => {

@@ -36,3 +36,10 @@ GivesStockCheck t c (Err e) = (e ≡ app.OutOfMemory)
 abbrev pub EndsStockCheck : {C : Type 0} → TypeTable → Text C → Result Unit AppFault → Type 0
 EndsStockCheck t certificate r =
     Then (GivesStockCertificate certificate) (λ c. GivesStockCheck t c) r
+
+-- the result of reading a certificate that has to be right for a table: the one that the text spells;
+-- or the end of the check with a fault
+abbrev pub GivesRightStocks : {C : Type 0} → TypeTable → Text C
+    → Result StockCertificate AppFault → Type 0
+GivesRightStocks t text (Ok c) = GivesStockCertificate text (Ok c) × IsRight t c
+GivesRightStocks t text (Err e) = EndsStockCheck t text (Err e)

@@ -1,8 +1,10 @@
-use Rattle.std.proofs.Common.{ℕ, ◌<◌, get_or}
-use Rattle.arrayvec.specs.ArrayVec.{ArrayVec}
-use Rattle.cn_reasons.specs.NotRecording.{Leaves}
+use Rattle.std.proofs.Common.{◌≡◌, ◌+◌, ◌<◌, [], ℕ}
+use Rattle.cn_reasons.specs.Beginnings.{NoRest}
 use Rattle.cn_reasons.proofs.first_order.first_order.Given as goal
 
--- none of the orders so far leaves the state
-abbrev pub invariant-loop-order : goal.invariant-loop-order
-invariant-loop-order l = (k : ℕ) (e : ArrayVec ℕ) → k < l.order-index → ¬ Leaves l.table l.choice l.fn.team l.fn.state.0 (get_or l.orders k e).items
+-- no order of a length so far leaves the state, and the list is still empty
+abbrev pub invariant-loop-more : goal.invariant-loop-more
+invariant-loop-more l = record {
+  none : (k : ℕ) → k < l.more + 1 → NoRest l.aim k [];
+  empty : l.order.items ≡ [];
+}

@@ -17,9 +17,6 @@ tell-requires-clause-fits c =
     let listed = Contains-between (live_choices t c.args.n) c.loop-choice.yielded c.next.new.self d (rw c.in-Some.ensures.steps at c.loop-choice.invariant.all) in
     ((c.live_list.ensures.listed t c.args.n d).0 listed).1
 
-pub tell-requires-clause-orders : goal.tell-requires-clause-orders
-tell-requires-clause-orders c = rw c.as_slice.ensures.value (record { every = c.in_ok-orders.ensures.every; in_order = c.in_ok-orders.ensures.in_order })
-
 pub tell-requires-clause-no_witness : goal.tell-requires-clause-no_witness
 tell-requires-clause-no_witness c =
     let t = c.args.table.now in

@@ -11,15 +11,15 @@ loop-n-init g c = record {
 }
 
 pub last_split-requires-clause-none : goal.last_split-requires-clause-none
-last_split-requires-clause-none g c s = true≢false (sym ((c.some_tells.ensures c.args.table.now (c.loop-n.n + 1) c.in_ok-search-2.ensures).1 s) ∙ c.if-not-some_tells.true)
+last_split-requires-clause-none g c s = true≢false (sym ((c.some_tells.ensures c.args.table.now (c.loop-n.n + 1) c.in_ok-search-2.ensures.search).1 s) ∙ c.if-not-some_tells.true)
 
 pub loop-n-preserved : goal.loop-n-preserved
 loop-n-preserved g c =
     let t = c.args.table.now in
     let n = c.loop-n.n in record {
-      search_is = c.in_ok-search-2.ensures;
+      search_is = c.in_ok-search-2.ensures.search;
       tells = λ l. elim c.else-n-ge2.branch [
-        | else-n-ge2-via-then-n-ge2+else-not-some_tells w ↦ (w.some_tells.ensures t (n + 1) c.in_ok-search-2.ensures).0 w.if-not-some_tells.false
+        | else-n-ge2-via-then-n-ge2+else-not-some_tells w ↦ (w.some_tells.ensures t (n + 1) c.in_ok-search-2.ensures.search).0 w.if-not-some_tells.false
         | else-n-ge2-via-else-n-ge2 w ↦ absurd (omega (arith, l, w.if-n-ge2.false))
       ];
     }

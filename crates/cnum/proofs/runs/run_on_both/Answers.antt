@@ -66,6 +66,22 @@ returns-in-CheckStocks g c =
       },
     )
 
+pub returns-in-ExplainStocks : goal.returns-in-ExplainStocks
+returns-in-ExplainStocks g c =
+    let given : Some c.in-ExplainStocks.certificate ≡ Some c.args.source = ap certificate_of (sym c.in-ExplainStocks.is) ∙ c.requires.command in
+    let same : c.in-ExplainStocks.certificate ≡ c.args.source = cc in
+    rw c.in-ExplainStocks.is (
+      c.text_of-certificate.result,
+      rw same c.text_of-certificate.ensures,
+      record {
+        table_after = c.explain_stocks-end.new.table;
+        certificate_after = c.explain_stocks-end.new.certificate;
+        read = c.explain_stocks-end.ensures.read;
+        order = inr tt;
+        reported = rw c.noting_table-in-ExplainStocks.ensures c.explain_stocks-end.ensures.explained;
+      },
+    )
+
 pub returns-in-Explain : goal.returns-in-Explain
 returns-in-Explain g c =
     let given : Some c.in-Explain.certificate ≡ Some c.args.source = ap certificate_of (sym c.in-Explain.is) ∙ c.requires.command in

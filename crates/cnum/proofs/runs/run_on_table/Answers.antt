@@ -28,6 +28,13 @@ returns-in-FindStocks g c = λ stdin. rw c.in-FindStocks.is (record {
   reported = c.find_stocks.ensures.found;
 })
 
+pub returns-in-WhyStocks : goal.returns-in-WhyStocks
+returns-in-WhyStocks g c = λ stdin. rw c.in-WhyStocks.is (record {
+  after = c.why_stocks.new.table;
+  read = c.why_stocks.ensures.read;
+  reported = c.why_stocks.ensures.told;
+})
+
 pub returns-in-Lint : goal.returns-in-Lint
 returns-in-Lint g c = λ stdin. rw c.in-Lint.is (record {
   after = c.lint.new.table;

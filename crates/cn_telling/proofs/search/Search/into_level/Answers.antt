@@ -11,8 +11,8 @@ all_ends-requires-after_bounds g c κs within =
     subst (λ (list : List Stock). All (IsNext t s.below) list) (sym c.as_slice-here.ensures.value)
     (all_next t s.below s.stocks.list.items c.requires.below c.requires.stocks.stocks)
 
-pub returns : goal.returns
-returns g c =
+pub returns-clause-level : goal.returns-clause-level
+returns-clause-level g c =
     let t = c.args.table.now in record {
       level_is = record {
         starts = c.requires.starts;

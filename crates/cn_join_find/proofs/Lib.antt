@@ -1,0 +1,7 @@
+pub mod ReachLemmas
+pub mod WordLemmas
+pub mod StepLemmas
+pub mod CrossLemmas
+pub mod MarkLemmas
+pub mod SearchLemmas
+pub mod WitnessLemmas

@@ -1,0 +1,4 @@
+pub mod Reached
+pub mod Steps
+pub mod Crossing
+pub mod Marks

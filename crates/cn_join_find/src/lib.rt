@@ -1,0 +1,27 @@
+//! The search for joins of stocks of up to 16 operations, from the stocks within each of them.
+//!
+//! [`find_joins`] answers joins as evidence that a type is not n-discerning, for n from 2 to 16, and
+//! [`find_witness`] a witness that it is, for n from 3 on. Most stocks are connected by smaller ones.
+//! Of the others that do not tell the pairs that words within them show are made.
+//!
+//! ```text
+//! let joins = find_joins(rt, alloc, &table, 10, Threading::Many)?;
+//! ```
+#![tactic(auto)]
+
+mod against;
+mod connect;
+mod crossing;
+mod likely;
+mod marks;
+mod meeting;
+mod notices;
+mod reach;
+mod split;
+mod steps;
+#[cfg(test)]
+mod tests;
+mod words;
+
+pub use against::{find_joins, find_witness};
+pub use split::Split;

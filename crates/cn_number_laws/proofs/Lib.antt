@@ -1,0 +1,9 @@
+mod Searches
+mod Orbits
+mod Lists
+mod Settling
+mod TellingStarts
+mod Numbers
+mod Pairs
+mod Recordings
+mod PartLemmas

@@ -1,0 +1,3 @@
+pub mod LastingStarts
+pub mod ReachedStates
+pub mod Parts

@@ -1,0 +1,4 @@
+pub mod Behind
+pub mod Words
+pub mod Steps
+pub mod Claims
