@@ -1,6 +1,6 @@
-//! The search for joins of stocks of up to 16 operations, from the stocks within each of them.
+//! The search for joins of stocks of up to 17 operations, from the stocks within each of them.
 //!
-//! [`find_joins`] answers joins as evidence that a type is not n-discerning, for n from 2 to 16, and
+//! [`find_joins`] answers joins as evidence that a type is not n-discerning, for n from 2 to 17, and
 //! [`find_witness`] a witness that it is, for n from 3 on. Most stocks are connected by smaller ones.
 //! Of the others that do not tell the pairs that words within them show are made.
 //!

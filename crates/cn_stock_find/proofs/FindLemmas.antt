@@ -2,7 +2,7 @@
 use Rattle.std.proofs.Common.{◌≡◌, ◌≢◌, ℕ, ◌+◌, ◌<◌, ◌≤◌, List, ◌∷◌, length, inl, inr, refl, sym, ap, ◌∙◌, subst, arith, Contains, Option, Some, None, Bool, true, false, cond, nat_le, ◌&&◌}
 use Rattle.std.specs.Prelude.{MatchOption, nat_lt}
 use Rattle.std.specs.Option.{option_map}
-use Rattle.std.proofs.lemmas.Bool.{and_parts, leb-true, ltb-false, ltb-true}
+use Rattle.std.proofs.lemmas.Bool.{and_parts, leb-true, lt-ltb, ltb-false, ltb-true}
 use Rattle.std.proofs.lemmas.Option.{same_Some}
 use Rattle.std.proofs.lemmas.List.Elements.{Contains-append_right}
 use Rattle.cn_table.specs.TypeTable.{TypeTable}
@@ -22,7 +22,7 @@ use Rattle.cn_search.specs.declared.fault.FindFault.TheVariants.{BadLimit}
 use Rattle.cn_stock_cert.specs.Certificate.{StockCertificate}
 use Rattle.cn_stock_cert.specs.Right.{AreInRange, ShowsAtLeast, ShowsAtMost}
 use Rattle.cn_stock_cert.specs.declared.certificate.StockClaim.{StockClaim}
-use Rattle.cn_stock_find.specs.Found.{IsCertificateOf, IsClaimOf, IsFirstClaim, IsFoundCertificate, discerning_number, exact_bound, lower_bound, upper_bound}
+use Rattle.cn_stock_find.specs.Found.{IsCertificateOf, IsClaimOf, IsFirstClaim, IsFoundCertificate, discerning_number, lower_bound, upper_bound}
 
 -- ---- the upper bound
 
@@ -74,14 +74,14 @@ first_shows t limit number claim is raw first = record { shows = shows_least t l
 pub some_shows : (t : TypeTable) (n : ℕ) (claim : StockClaim) → GREATEST_LIMIT < n → ShowsAtLeast t claim (Some n) → IsClaimOf t (Some n) claim
 some_shows t n claim more shows = record { shows = shows; first = λ few. absurd (omega (arith, more, few)) }
 
-in_range : (t : TypeTable) (limit : ℕ) (number most : Option ℕ) → 2 ≤ limit → limit ≤ 16 → IsNumberUpTo t limit number → upper_bound limit number ≡ most → AreInRange (Some (lower_bound number)) most
+in_range : (t : TypeTable) (limit : ℕ) (number most : Option ℕ) → 2 ≤ limit → lower_bound number ≤ 16 → IsNumberUpTo t limit number → upper_bound limit number ≡ most → AreInRange (Some (lower_bound number)) most
 in_range t limit number (Some m) two few is e =
     let b = bound_in t limit number m two is e in
-    (omega (arith, b.0, b.1), omega (arith, b.0), omega (arith, b.2, few))
+    (omega (arith, b.0, b.1), omega (arith, b.0), omega (arith, b.0, few))
 in_range t limit None None two few is e = absurd (cc e)
-in_range t limit (Some n) None two few is e = (omega (arith, is.0), omega (arith, is.1, few))
+in_range t limit (Some n) None two few is e = (omega (arith, is.0), few)
 
-pub certificate_for : (t : TypeTable) (limit : ℕ) (number : Option ℕ) → 2 ≤ limit → limit ≤ 16 → IsNumberUpTo t limit number → (c : StockCertificate) → c.at_least ≡ Some (lower_bound number)
+pub certificate_for : (t : TypeTable) (limit : ℕ) (number : Option ℕ) → 2 ≤ limit → lower_bound number ≤ 16 → IsNumberUpTo t limit number → (c : StockCertificate) → c.at_least ≡ Some (lower_bound number)
     → c.at_most ≡ upper_bound limit number → IsClaimOf t number c.least → ShowsAtMost t c.most (upper_bound limit number) → c.type_name ≡ t.name → IsCertificateOf t limit number c
 certificate_for t limit number two few is c least most claim joins name = record {
   right = record {
@@ -96,6 +96,10 @@ certificate_for t limit number two few is c least most claim joins name = record
   least = claim;
 }
 
+pub lower_up_to : (t : TypeTable) (limit : ℕ) (number : Option ℕ) → limit ≤ 8 → IsNumberUpTo t limit number → lower_bound number ≤ 16
+lower_up_to t limit None few is = omega arith
+lower_up_to t limit (Some n) few is = omega (arith, is.1, few)
+
 -- a number up to one of the limits
 pub found_up_to : (t : TypeTable) (limit : ℕ) (number : Option ℕ) → limit ≤ 8 → IsNumberUpTo t limit number → (c : StockCertificate) → IsCertificateOf t limit number c → IsFoundCertificate t (Some limit) c
 found_up_to t limit number few is c of = record {
@@ -109,43 +113,56 @@ found_up_to t limit number few is c of = record {
 
 -- ---- the number of a type
 
--- up to the most operations of a stock
+-- it is at most the most states
+few_of : (t : TypeTable) (n : ℕ) → length t.states ≤ 16 → HasNumber t (Finite n) → n ≤ 16
+few_of t n states (one, few, is, none) = elim few [
+  | inl small ↦ omega (arith, small)
+  | inr known ↦ omega (arith, known, states)
+]
+
+-- so that it is the number up to the most operations of a stock
 pub number_within : (t : TypeTable) (n : ℕ) → length t.states ≤ 16 → HasNumber t (Finite n) → IsNumberUpTo t MOST_SIZE (discerning_number n)
 number_within t n states (one, few, is, none) = by_test (nat_lt n LEAST_LIMIT) refl
   where
-    within : n ≤ 16
-    within = elim few [
-      | inl small ↦ omega (arith, small)
-      | inr known ↦ omega (arith, known, states)
-    ]
-
     by_test : (b : Bool) → nat_lt n LEAST_LIMIT ≡ b → IsNumberUpTo t MOST_SIZE (cond b None (Some n))
     by_test true e = λ m two limit. none m (let l : n < 2 = ltb-true n LEAST_LIMIT e in omega (arith, l, two))
-    by_test false e = let two : 2 ≤ n = ltb-false n LEAST_LIMIT e in (two, within, is two, λ m less limit. none m less)
+    by_test false e =
+        let two : 2 ≤ n = ltb-false n LEAST_LIMIT e in
+        (two, omega (arith, few_of t n states (one, few, is, none)), is two, λ m less limit. none m less)
 
--- its bounds are those of the number
-bounds_of : (n : ℕ) → 1 ≤ n → (lower_bound (discerning_number n) ≡ n) × (upper_bound MOST_SIZE (discerning_number n) ≡ exact_bound n)
-bounds_of n one = by_test (nat_lt n LEAST_LIMIT) refl
+-- its lower bound is the number
+lower_is : (n : ℕ) → 1 ≤ n → lower_bound (discerning_number n) ≡ n
+lower_is n one = by_test (nat_lt n LEAST_LIMIT) refl
   where
-    by_test : (b : Bool) → nat_lt n LEAST_LIMIT ≡ b → (lower_bound (cond b None (Some n)) ≡ n) × (upper_bound MOST_SIZE (cond b None (Some n)) ≡ exact_bound n)
+    by_test : (b : Bool) → nat_lt n LEAST_LIMIT ≡ b → lower_bound (cond b None (Some n)) ≡ n
+    by_test true e = let l : n < 2 = ltb-true n LEAST_LIMIT e in omega (arith, l, one)
+    by_test false e = refl
+
+-- and so is its upper bound
+upper_is : (n : ℕ) → 1 ≤ n → n ≤ 16 → upper_bound MOST_SIZE (discerning_number n) ≡ Some n
+upper_is n one few = by_test (nat_lt n LEAST_LIMIT) refl
+  where
+    by_test : (b : Bool) → nat_lt n LEAST_LIMIT ≡ b → upper_bound MOST_SIZE (cond b None (Some n)) ≡ Some n
     by_test true e =
         let l : n < 2 = ltb-true n LEAST_LIMIT e in
         let same : 1 ≡ n = omega (arith, l, one) in
-        (same, ap exact_bound same)
-    by_test false e = (refl, refl)
+        ap Some same
+    by_test false e = ap (λ (b : Bool). cond b (Some n) None) (lt-ltb n MOST_SIZE (omega (arith, few)))
 
-pub found_exactly : (t : TypeTable) (n : ℕ) → HasNumber t (Finite n) → (c : StockCertificate) → IsCertificateOf t MOST_SIZE (discerning_number n) c → IsFoundCertificate t None c
-found_exactly t n is c of =
-    let b = bounds_of n is.0 in record {
-      right = of.right;
-      found = inr (record {
-        number = n;
-        is_number = is;
-        at_least = of.at_least ∙ ap Some b.0;
-        at_most = of.at_most ∙ b.1;
-        least = λ few. of.least.first (omega (arith, few, b.0));
-      });
-    }
+pub lower_within : (t : TypeTable) (n : ℕ) → length t.states ≤ 16 → HasNumber t (Finite n) → lower_bound (discerning_number n) ≤ 16
+lower_within t n states is = omega (arith, lower_is n is.0, few_of t n states is)
+
+pub found_exactly : (t : TypeTable) (n : ℕ) → length t.states ≤ 16 → HasNumber t (Finite n) → (c : StockCertificate) → IsCertificateOf t MOST_SIZE (discerning_number n) c → IsFoundCertificate t None c
+found_exactly t n states is c of = record {
+  right = of.right;
+  found = inr (record {
+    number = n;
+    is_number = is;
+    at_least = of.at_least ∙ ap Some (lower_is n is.0);
+    at_most = of.at_most ∙ upper_is n is.0 (few_of t n states is);
+    least = λ few. of.least.first (omega (arith, few, lower_is n is.0));
+  });
+}
 
 -- the number of a type that is not discerning for some number is finite
 pub not_infinite : (t : TypeTable) → HasNumber t Infinite → ((n : ℕ) × (2 ≤ n) × ¬ IsDiscerning t n) → ⊥

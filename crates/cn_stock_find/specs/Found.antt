@@ -10,7 +10,6 @@ use Rattle.cn_search.specs.Faults.{number_fault}
 use Rattle.cn_search.specs.Numbers.{HasNumber}
 use Rattle.cn_search.specs.declared.exact.ConsensusNumber.TheVariants.{Finite}
 use Rattle.cn_search.specs.declared.fault.FindFault.{FindFault}
-use Rattle.cn_stocks.specs.declared.limits.TheConstants.{MOST_SIZE}
 use Rattle.cn_stocks.specs.Lasting.{IsAlwaysDiscerning}
 use Rattle.cn_stock_cert.specs.Certificate.{StockCertificate}
 use Rattle.cn_stock_cert.specs.Right.{IsRight, ShowsAtLeast}
@@ -68,17 +67,13 @@ HasNoBounds c = (c.at_least ≡ None) × (c.at_most ≡ None)
 abbrev pub discerning_number : ℕ → Option ℕ
 discerning_number n = if nat_lt n LEAST_LIMIT then None else Some n
 
--- the upper bound for the number of a type: stocks of one operation more are at most MOST_SIZE long
-abbrev pub exact_bound : ℕ → Option ℕ
-exact_bound n = if nat_lt n MOST_SIZE then Some n else None
-
--- the number of the type is the lower bound, and the upper one too if it is below MOST_SIZE; the
--- first witness shows a number up to the greatest limit
+-- the number of the type is the lower and the upper bound; the first witness shows a number up to the
+-- greatest limit
 pub record IsFoundExactly (t : TypeTable) (c : StockCertificate) : Type 0 where
   pub number : ℕ
   pub is_number : HasNumber t (Finite number)
   pub at_least : c.at_least ≡ Some number
-  pub at_most : c.at_most ≡ exact_bound number
+  pub at_most : c.at_most ≡ Some number
   pub least : number ≤ GREATEST_LIMIT → IsFirstClaim t (discerning_number number) c.least
 
 -- with no limit: no bounds for a type that is n-discerning for every n; for any other type its number

@@ -12,6 +12,7 @@ ghost use Rattle.cn_stock_cert.specs.declared.certificate.StockClaim.TheVariants
 ghost use Rattle.cn_stock_find.specs.Found.{IsCertificateOf, IsClaimOf, IsFirstClaim, IsFoundCertificate};
 ghost use Rattle.cn_stock_find.specs.Found.{discerning_number, limit_fault, lower_bound, upper_bound};
 ghost use Rattle.cn_stocks.specs.declared.limits.TheConstants.{MOST_SIZE};
+ghost use Rattle.cn_table.specs.declared.limits.TheConstants.{MOST_STATES};
 ghost use Rattle.cn_stocks.specs.Leaving.{IsLasting};
 
 use crate::joins::{joins_against, witness_of};
@@ -188,6 +189,7 @@ fn certificate_of<T: Threads + Sync>(
     requires few { limit ≤ MOST_SIZE }
     requires some { LEAST_LIMIT ≤ limit }
     requires number { IsNumberUpTo table.now limit number }
+    requires small { lower_bound number ≤ MOST_STATES }
     ensures { IfOk result (IsCertificateOf table.now limit number) }
 {
     let at_least = least_of(number);
@@ -293,8 +295,7 @@ fn find_without_limit<T: Threads + Sync>(
 /// With a limit, from [`LEAST_LIMIT`](cn_finding::LEAST_LIMIT) to
 /// [`GREATEST_LIMIT`](cn_finding::GREATEST_LIMIT), the lower bound is the number up to the limit, or
 /// 1, and a number below the limit is the upper bound too. With no limit, a type with every number
-/// has no bounds. The finite number of any other one is its lower bound, and its upper one too if it
-/// is below [`MOST_SIZE`](cn_stocks::limits::MOST_SIZE).
+/// has no bounds. The finite number of any other one is its lower and its upper bound.
 ///
 /// The first canonical witness shows the lower bound, and another witness one above the greatest
 /// limit. Joins show the upper one ([`joins_against`](crate::joins_against)). Sets of states show

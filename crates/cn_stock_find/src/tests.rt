@@ -180,7 +180,6 @@ fn bounds_of_counters(rt: HostRuntime) -> Result<(), Fail> {
     let alloc = rt.alloc();
     assert!(rt; bounds(&rt, alloc, 9)? == (Some(9), Some(9)));
     assert!(rt; bounds(&rt, alloc, 15)? == (Some(15), Some(15)));
-    // Joins against 17 processes are not looked for.
-    assert!(rt; bounds(&rt, alloc, 16)? == (Some(16), None));
+    assert!(rt; bounds(&rt, alloc, 16)? == (Some(16), Some(16)));
     Ok(())
 }

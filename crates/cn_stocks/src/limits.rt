@@ -1,4 +1,5 @@
 //! How far a search goes.
 
-/// The most operations of a stock: as many as a type may have states.
-pub const MOST_SIZE: usize = 16;
+/// The most operations of a stock: one more than a type may have states. A finite number is at most
+/// the number of states, and stocks of one operation more show that it is not greater.
+pub const MOST_SIZE: usize = 17;

@@ -13,7 +13,7 @@ use std::alloc::{AllocError, Global};
 /// Whether the stock splits from the start state. It has one operation of the type or more, and at
 /// most [`MOST_SIZE`](cn_stocks::limits::MOST_SIZE).
 ///
-/// It looks at each stock within this one, of which there are at most 6,561 for 16 operations: the
+/// It looks at each stock within this one, of which there are at most 8,748 for 17 operations: the
 /// product of the counts of its operations, each plus 1. For each of these it keeps less than a
 /// kilobyte, and it goes over them once for each operation of the type.
 ///

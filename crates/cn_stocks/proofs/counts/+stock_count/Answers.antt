@@ -10,8 +10,8 @@ overflow_add-result g c =
       arith,
       c.stock_count.ensures,
       c.stock_count-2.ensures,
-      few_stocks k (n - 1) 24 (omega (arith, c.requires.operations, c.requires.n)),
-      few_stocks (k - 1) n 24 (omega (arith, c.requires.operations, c.requires.n)),
+      few_stocks k (n - 1) 25 (omega (arith, c.requires.operations, c.requires.n)),
+      few_stocks (k - 1) n 25 (omega (arith, c.requires.operations, c.requires.n)),
     )
 
 pub returns : goal.returns
