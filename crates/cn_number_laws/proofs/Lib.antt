@@ -7,3 +7,4 @@ mod Numbers
 mod Pairs
 mod Recordings
 mod PartLemmas
+mod CrashFreeRuns

@@ -11,10 +11,15 @@ ghost use Rattle.cn_telling.specs.Telling.{SomeTells, TellsFrom};
 ghost use Rattle.cn_recover.specs.Recording.{HasRecoverableNumber, IsRecording, IsRecordingWitness};
 ghost use Rattle.cn_search.specs.declared.exact.ConsensusNumber.TheVariants.{Finite};
 ghost use Rattle.cn_number_laws.specs.Parts.{IsPart, with_start};
+ghost use Rattle.cn_consensus.specs.Consensus.{IsBoundedWaitFree, IsConsensusProtocol};
+ghost use Rattle.cn_consensus.specs.Protocol.{Protocol};
+ghost use Rattle.cn_crashes.specs.RecoverableConsensus.{IsRecoverableConsensusProtocol};
+ghost use Rattle.cn_crashes.specs.RecoverableWaitFreedom.{IsRecoverablyWaitFree};
 ghost use Rattle.cn_number_laws.specs.LastingStarts.{LastsFrom, NoneLastFrom, SomeLast};
 ghost use Rattle.cn_number_laws.specs.ReachedStates.{HasReached};
 
 use cn_choice::laws::witnesses_are_live;
+use cn_consensus::laws::bound_is_wait_freedom;
 use cn_recover::laws::no_greatest_together;
 use cn_stocks::lasting::laws::lasting_operations_decide;
 use cn_stocks::laws::{splits_decide, starts_of_witnesses};
@@ -135,4 +140,21 @@ pub fn finite_numbers()
     starts_of_witnesses();
     witnesses_are_live();
     no_greatest_together();
+}
+
+/// A protocol for recoverable consensus solves consensus, with or without a bound on the steps of a
+/// life. Executions with no crash are schedules; none of them goes on for ever, by a descent over
+/// the processes, so that their steps are bounded:
+///
+/// - `wait_freedom`: recoverable wait-freedom is wait-freedom with a bound;
+/// - `consensus`: so a protocol for recoverable consensus is one for consensus.
+pub fn recoverable_consensus_is_consensus<L, V>()
+    // promise: recoverable-consensus-is-consensus (IsRecoverablyWaitFree, IsBoundedWaitFree)
+    ensures wait_freedom { (t : ℕ → TypeTable) (n : ℕ) (P : Protocol L V)
+        → IsRecoverablyWaitFree t n P → IsBoundedWaitFree t n P }
+    // promise: recoverable-consensus-is-consensus (IsRecoverableConsensusProtocol)
+    ensures consensus { (t : ℕ → TypeTable) (n : ℕ) (P : Protocol L V)
+        → IsRecoverableConsensusProtocol t n P → IsConsensusProtocol t n P }
+{
+    bound_is_wait_freedom::<L, V>();
 }
