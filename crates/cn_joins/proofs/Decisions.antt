@@ -10,6 +10,7 @@ use Rattle.cn_stocks.proofs.Witnesses.{to_splits, to_witness}
 use Rattle.cn_joins.specs.Evidence.{IsEvidenceAgainst, SomeNotices}
 use Rattle.cn_joins.specs.Joins.{Connect, IsJoin, Join}
 use Rattle.std.proofs.lemmas.List.Elements.{Contains-append_left, Contains-append_right}
+use Rattle.cn_joins.proofs.CopyLemmas.{without_copies}
 use Rattle.cn_joins.proofs.Gathering.{Grows, for_each, for_each_list}
 use Rattle.cn_joins.proofs.Joined.{connecting}
 use Rattle.cn_joins.proofs.Soundness.{no_split}
@@ -17,16 +18,18 @@ use Rattle.cn_joins.proofs.TwoProcesses.{two}
 
 -- ---- from evidence
 
-none_splits : (t : TypeTable) (n : ℕ) (joins : List Join) → IsEvidenceAgainst t n joins → ¬ SomeSplits t n
-none_splits t n joins e s = let from = s.2 in no_split t s.0 from.0 joins e.are_joins (e.connect s.0 s.1 from.0 from.1 from.2) from.3
+none_splits : (t : TypeTable) (n : ℕ) (joins : List Join) → 2 ≤ n → IsEvidenceAgainst t n joins → ¬ SomeSplits t n
+none_splits t n joins l e s =
+    let from = without_copies t n s.0 l e.none_notices s.1 s.2 in
+    no_split t s.0 from.0 joins e.are_joins (e.connect s.0 s.1 from.0 from.1 from.2 from.3) from.4
 
 pub refuted : (t : TypeTable) (n : ℕ) (joins : List Join) → 2 ≤ n → IsEvidenceAgainst t n joins → ¬ IsDiscerning t n
 refuted t n joins l e d = elim (same_or n 2) [
   | inl same ↦ elim ((two t).0 (subst (IsDiscerning t) same d)) [
-    | inl s ↦ none_splits t n joins e (subst (SomeSplits t) (sym same) s)
+    | inl s ↦ none_splits t n joins l e (subst (SomeSplits t) (sym same) s)
     | inr s ↦ e.none_notices same s
   ]
-  | inr other ↦ none_splits t n joins e (to_splits t n (omega (arith, l, other)) d)
+  | inr other ↦ none_splits t n joins l e (to_splits t n (omega (arith, l, other)) d)
 ]
 
 -- what is discerning for more is so for fewer
@@ -63,7 +66,7 @@ module _ (t : TypeTable) (n : ℕ) (none : ¬ SomeSplits t n) where
     of_all.0,
     record {
       are_joins = of_all.1;
-      connect = λ start known stock in_table long. of_all.2 start known stock long in_table;
+      connect = λ start known stock in_table long none_copied. of_all.2 start known stock long in_table;
       none_notices = quiet;
     },
   )

@@ -1,5 +1,6 @@
 pub mod PlacedWords
 pub mod Soundness
+pub mod CopyLemmas
 pub mod Finite
 pub mod Gathering
 pub mod Joined

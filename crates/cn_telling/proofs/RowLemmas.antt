@@ -19,10 +19,10 @@ use Rattle.cn_telling.specs.Rows.{HasEarlier, HaveOneRow, RowsDiffer, SplitsByRo
 
 -- ---- a in place of each b
 
-same_next : (t : TypeTable) (a b s : ℕ) → HaveOneRow t a b → (transition t a s).1 ≡ (transition t b s).1
+pub same_next : (t : TypeTable) (a b s : ℕ) → HaveOneRow t a b → (transition t a s).1 ≡ (transition t b s).1
 same_next t a b s e = ap (λ (row : List ℕ). slice_index row s) e
 
-stands_mapped : (f : ℕ → ℕ) (x : ℕ) (list : List ℕ) → 1 ≤ times x list → 1 ≤ times (f x) (map f list)
+pub stands_mapped : (f : ℕ → ℕ) (x : ℕ) (list : List ℕ) → 1 ≤ times x list → 1 ≤ times (f x) (map f list)
 stands_mapped f x [] l = absurd (omega (arith, l, times_none x))
 stands_mapped f x (y ∷ list) l = elim (same_or y x) [
   | inl e ↦ omega (arith, times_cons (f x) (f y) (map f list), one_of (f x) (f y) (ap f e))
@@ -33,13 +33,13 @@ cons_same : (x y : ℕ) (us vs : List ℕ) → x ≡ y → us ≡ vs → x ∷ u
 cons_same x y us vs e g = rw (e, g) refl
 
 module _ (a b : ℕ) (other : a ≢ b) where
-  at_b : (x : ℕ) → x ≡ b → in_place a b x ≡ a
+  pub at_b : (x : ℕ) → x ≡ b → in_place a b x ≡ a
   at_b x e = rw (eq-eqb x b e) refl
 
-  at_else : (x : ℕ) → x ≢ b → in_place a b x ≡ x
+  pub at_else : (x : ℕ) → x ≢ b → in_place a b x ≡ x
   at_else x n = rw (ne_eqb x b n) refl
 
-  times_a : (list : List ℕ) → times a (replaced a b list) ≡ times a list + times b list
+  pub times_a : (list : List ℕ) → times a (replaced a b list) ≡ times a list + times b list
   times_a [] = refl
   times_a (x ∷ list) = elim (same_or x b) [
     | inl e ↦ omega (
@@ -58,14 +58,14 @@ module _ (a b : ℕ) (other : a ≢ b) where
         )
   ]
 
-  times_b : (list : List ℕ) → times b (replaced a b list) ≡ 0
+  pub times_b : (list : List ℕ) → times b (replaced a b list) ≡ 0
   times_b [] = refl
   times_b (x ∷ list) = elim (same_or x b) [
     | inl e ↦ omega (arith, times_b list, times_cons b (in_place a b x) (replaced a b list), one_else b (in_place a b x) (λ h. other (sym (at_b x e) ∙ h)))
     | inr n ↦ omega (arith, times_b list, times_cons b (in_place a b x) (replaced a b list), one_else b (in_place a b x) (λ h. n (sym (at_else x n) ∙ h)))
   ]
 
-  times_else : (o : ℕ) → o ≢ a → o ≢ b → (list : List ℕ) → times o (replaced a b list) ≡ times o list
+  pub times_else : (o : ℕ) → o ≢ a → o ≢ b → (list : List ℕ) → times o (replaced a b list) ≡ times o list
   times_else o not_a not_b [] = refl
   times_else o not_a not_b (x ∷ list) = elim (same_or x b) [
     | inl e ↦ omega (
@@ -145,7 +145,7 @@ module _ (a b : ℕ) (other : a ≢ b) where
   head_of f (x ∷ word) h = (x, h, refl)
 
   module _ (t : TypeTable) (row : HaveOneRow t a b) where
-    same_state : (s : ℕ) (word : List ℕ) → state_after t s (replaced a b word) ≡ state_after t s word
+    pub same_state : (s : ℕ) (word : List ℕ) → state_after t s (replaced a b word) ≡ state_after t s word
     same_state s [] = refl
     same_state s (x ∷ word) = same_state (transition t (in_place a b x) s).1 word ∙ ap (λ (q : ℕ). state_after t q word) step
       where
