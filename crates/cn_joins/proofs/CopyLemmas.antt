@@ -1,5 +1,5 @@
 -- A stock needs no copies of earlier operations.
-use Rattle.std.proofs.Common.{◌≡◌, ◌≢◌, ℕ, zero, suc, ◌+◌, ◌<◌, ◌≤◌, ◌⊎◌, inl, inr, List, [], ◌∷◌, ◌++◌, length, map, refl, sym, ap, ◌∙◌, subst, arith, Bool, true, false, true≢false}
+use Rattle.std.proofs.Common.{◌≡◌, ◌≢◌, ℕ, zero, suc, ◌+◌, ◌<◌, ◌≤◌, ◌⊎◌, inl, inr, List, [], ◌∷◌, ◌++◌, length, map, refl, sym, ap, ◌∙◌, subst, arith, true≢false}
 use Rattle.std.proofs.lemmas.List.{length-map, map-append}
 use Rattle.cn_table.specs.TypeTable.{TypeTable, transition}
 use Rattle.cn_table.specs.Run.{state_after}
@@ -7,9 +7,9 @@ use Rattle.cn_stocks.specs.Splits.{AreJoined, SplitsFrom, StockSplits}
 use Rattle.cn_stocks.specs.Words.{BeginsWith, IsKnown, IsWithin, Shows, times}
 use Rattle.cn_stocks.proofs.SplitLemmas.{joined_sym}
 use Rattle.cn_stocks.proofs.StockLemmas.{before_or_behind}
-use Rattle.cn_stocks.proofs.Times.{one, one_at, one_else, one_of, same_or, times_cons, times_none}
+use Rattle.cn_stocks.proofs.Times.{one, one_else, one_of, same_or, times_cons, times_none}
 use Rattle.cn_telling.specs.Rows.{HaveOneRow, in_place, replaced}
-use Rattle.cn_telling.proofs.RowLemmas.{at_b, at_else, same_next, same_state, splits_replaced, stands_mapped, times_a, times_b, times_else}
+use Rattle.cn_telling.proofs.RowLemmas.{at_b, at_else, same_state, splits_replaced, stands_mapped, times_a, times_b, times_else}
 use Rattle.cn_joins.specs.Evidence.{HasNoCopies, HasRowOfEarlier, HaveSameRows, SomeNotices, row_of}
 use Rattle.cn_joins.proofs.Finite.{OrNot, both, some_below}
 use Rattle.cn_joins.proofs.Soundness.{equal_from}
