@@ -17,8 +17,6 @@ from rows import rows
 
 LONGEST = 60
 MOST_CERTIFICATE = 2_000_000
-# Types with so many joins that a certificate by stocks takes more than a minute, unless it has a limit.
-MANY_JOINS = {"tests/types/climbed_16_8"}
 PATHS = [path for folder in ("types", "tests/types", "catalogue") for path in sorted((TOP / folder).glob("*.toml"))]
 TABLES = {str(path.relative_to(TOP).with_suffix("")): path.read_bytes() for path in PATHS}
 BIT, COUNTER = TABLES["types/test_and_set"], TABLES["types/counter_3"]
@@ -110,7 +108,7 @@ class Jobs:
                 self.run(["check", "--shortest", "--as", "json", "C"], table, C=shortest)
             self.run(["agree", "--shortest", "--processes", n, "--steps", "-", inputs, "1,1,0,0,0,1,0,1,0,1"], table)
         self.run(["classify", "--limit", "3", "T", "-", "T"], table, T=table)
-        for limit in ([], ["--limit", "3"])[name in MANY_JOINS :]:
+        for limit in ([], ["--limit", "3"]):
             self.run(["why", "--stocks", *limit, "-"], table)
             by_stocks = self.run(["find", "--stocks", *limit], table)
             if 0 < len(by_stocks) < MOST_CERTIFICATE:
