@@ -1,5 +1,5 @@
 -- Sets of operations between two that have a number.
-use Rattle.std.proofs.Common.{◌≡◌, ℕ, ◌+◌, ◌<◌, ◌≤◌, List, length, map, true≢false, sym, ap, ◌∙◌, subst, arith, All, Contains}
+use Rattle.std.proofs.Common.{◌≡◌, ℕ, ◌<◌, ◌≤◌, List, length, map, true≢false, sym, ap, ◌∙◌, subst, arith, All, Contains}
 use Rattle.std.specs.List.{Any, range_with_len}
 use Rattle.std.proofs.lemmas.List.Elements.{All-contains, All-from_recursion}
 use Rattle.cn_table.specs.TypeTable.{TypeTable}

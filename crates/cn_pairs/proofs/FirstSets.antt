@@ -1,12 +1,12 @@
 -- The first sets with a number.
-use Rattle.std.proofs.Common.{◌≡◌, ◌≢◌, ℕ, zero, suc, ◌+◌, ◌<◌, ◌≤◌, List, [], ◌∷◌, ◌++◌, length, map, take, drop, get_or, Bool, true, false, cond, refl, sym, ap, ◌∙◌, subst, arith, append-nil, true≢false}
+use Rattle.std.proofs.Common.{◌≡◌, ◌≢◌, ℕ, zero, suc, ◌+◌, ◌<◌, ◌≤◌, List, [], ◌∷◌, ◌++◌, length, map, take, drop, get_or, Bool, true, false, cond, refl, sym, ap, ◌∙◌, subst, arith, append-nil, true≢false, ◌↔◌, All, Contains}
 use Rattle.std.specs.List.{AllByRecursion, filter}
 use Rattle.std.proofs.lemmas.List.{length-map, map-append, nil_from_length, take-append-drop}
 use Rattle.std.proofs.lemmas.Bool.{eq-eqb, eqb-true}
-use Rattle.std.proofs.lemmas.List.Elements.{All-contains, filter_more}
+use Rattle.std.proofs.lemmas.List.Elements.{All-contains, All-from_recursion, filter_more}
 use Rattle.cn_table.specs.Restriction.{with_operations}
 use Rattle.cn_table.specs.TypeTable.{TypeTable}
-use Rattle.cn_choice.proofs.ListLemmas.Members.{Contains-from_IsIn, each_from}
+use Rattle.cn_choice.proofs.ListLemmas.Members.{Contains-from_IsIn, IsIn, IsIn-map, IsIn-map_from, each_from}
 use Rattle.cn_search.specs.Numbers.{HasNumber}
 use Rattle.cn_search.specs.declared.exact.ConsensusNumber.{ConsensusNumber}
 use Rattle.cn_search.specs.declared.exact.ConsensusNumber.TheVariants.{Finite, Infinite}
@@ -17,7 +17,7 @@ use Rattle.cn_pairs.specs.Firsts.{AreFirst}
 use Rattle.cn_pairs.specs.SetNumbers.{AreSetNumbers, IsSetNumber, numbers, set_lists, set_of, sets_of_size}
 use Rattle.cn_pairs.specs.Smallest.{AreSmallest, HasNumberWith, NoneHas, same_number}
 use Rattle.cn_pairs.specs.declared.restricted.SetNumber.{SetNumber}
-use Rattle.cn_pairs.proofs.Firsts.{Tells, first_by_test, first_full, first_more, first_other, none_first}
+use Rattle.cn_pairs.proofs.Firsts.{Tells, first_by_test, first_full, first_more, first_other, none_first, one_first}
 use Rattle.cn_pairs.proofs.OneNumber.{one_number}
 use Rattle.cn_pairs.proofs.SetLists.{lists_more}
 
@@ -121,6 +121,37 @@ first_of_size t size number all found are e =
     subst (λ (sets : List (List ℕ)). AreFirst (HasNumberWith t number) 12 sets found) are.listed
     (subst (AreFirst (HasNumberWith t number) 12 (map set_of all)) (sym e)
     (first_by_test set_of (HasNumberWith t number) (λ s. same_number s.number number) 12 all tell))
+
+-- there is one list of them
+pub told_by_numbers : (t : TypeTable) (number : ConsensusNumber) (sets : List (List ℕ)) (smallest : AreSmallest t number sets) (all : List SetNumber)
+    → AreSetNumbers t smallest.size all → sets ≡ map set_of (take 12 (with_number number all))
+told_by_numbers t number sets smallest all are =
+    one_first (HasNumberWith t number) 12 (sets_of_size t smallest.size) sets (map set_of (take 12 (with_number number all))) smallest.first
+    (first_of_size t smallest.size number all (map set_of (take 12 (with_number number all))) are refl)
+
+-- none has the number if each has another
+pub none_by_numbers : (t : TypeTable) (size : ℕ) (number : ConsensusNumber) (all : List SetNumber) → AreSetNumbers t size all
+    → NoneHas t size number ↔ All (λ s. same_number s.number number ≡ false) all
+none_by_numbers t size number all are = (
+  λ none. All-from_recursion (λ s. same_number s.number number ≡ false) all (each_from (λ s. same_number s.number number ≡ false) all (λ s i.
+      by_test s (same_number s.number number) refl (λ has. All-contains (λ set. ¬ HasNumberWith t number set) (sets_of_size t size) (set_of s) none
+      (subst (λ (sets : List (List ℕ)). Contains sets (set_of s)) are.listed (Contains-from_IsIn (set_of s) (map set_of all) (IsIn-map set_of s all i))) has)
+      (own s i))),
+  λ other. All-from_recursion (λ set. ¬ HasNumberWith t number set) (sets_of_size t size)
+      (subst (AllByRecursion (λ set. ¬ HasNumberWith t number set)) are.listed (each_from (λ set. ¬ HasNumberWith t number set) (map set_of all) (λ set i.
+      let s = IsIn-map_from set_of set all i in
+      λ has. has_other t (set_of s.0) s.0.number number (own s.0 s.2)
+      (All-contains (λ x. same_number x.number number ≡ false) all s.0 other (Contains-from_IsIn s.0 all s.2))
+      (subst (HasNumberWith t number) (sym s.1) has)))),
+)
+  where
+    own : (s : SetNumber) → IsIn s all → HasNumber (with_operations t (set_of s)) s.number
+    own s i = All-contains (IsSetNumber t) all s are.numbers (Contains-from_IsIn s all i)
+
+    by_test : (s : SetNumber) (b : Bool) → same_number s.number number ≡ b → (HasNumberWith t number (set_of s) → ⊥)
+        → HasNumber (with_operations t (set_of s)) s.number → same_number s.number number ≡ false
+    by_test s true e none is = absurd (none (has_same t (set_of s) s.number number is e))
+    by_test s false e none is = e
 
 module _ (t : TypeTable) (size : ℕ) (number : ConsensusNumber) (found : Vec (Vec Operation Global) Global)
     (first : AreFirst (HasNumberWith t number) 12 (sets_of_size t size) (set_lists found)) where
