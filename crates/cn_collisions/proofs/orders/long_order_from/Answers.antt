@@ -3,17 +3,12 @@ use Rattle.cn_choice.specs.RawChoices.{RawChoice}
 use Rattle.cn_choice.specs.TeamOrders.{team_from, team_to}
 use Rattle.cn_outcomes.proofs.LastProcess.{same_or_not}
 use Rattle.cn_collisions.specs.OutcomeOrders.{NoneOfLength}
-use Rattle.cn_collisions.proofs.FirstOrders.{first_into, none_at, none_into, none_of_none}
+use Rattle.cn_collisions.proofs.FirstOrders.{first_into, none_at, none_into}
 use Rattle.cn_collisions.proofs.OpeningLemmas.{first_onward, have_room, none_onward, start_room, way_from_step}
-use Rattle.cn_collisions.proofs.orders.first_order_into.Goals as goal
+use Rattle.cn_collisions.proofs.orders.long_order_from.Goals as goal
 
 pub loop-left-init : goal.loop-left-init
-loop-left-init c =
-    let a = c.args.asked.now in
-    record {
-      none = λ k l. none_of_none a.view.sets.now.table.now a.view.raw.now c.args.team a.view.process c.args.target.now k (omega (arith, l));
-      empty = c.requires.empty;
-    }
+loop-left-init c = record { none = λ k l. c.requires.shorter k (omega (arith, l)); empty = c.requires.empty }
 
 pub first_opening-requires-clause-room : goal.first_opening-requires-clause-room
 first_opening-requires-clause-room c =
@@ -78,4 +73,4 @@ returns-clause-none c =
     let a = c.args.asked.now in
     let seen = ap (λ (r : RawChoice). length r.operations) c.raw.view_is in
     none_into a.view.sets.now.table.now a.choice.now a.view.raw.now c.requires.asked.same c.args.team a.view.process c.args.target.now
-    (λ k l. c.loop-left.invariant.none k (omega (arith, l, seen, c.len-n.ensures.value, c.loop-left-test.false)))
+    (λ k l. c.loop-left.invariant.none k (omega (arith, l, seen, c.len-n.ensures.value, c.loop-left-test.false, c.loop-left.auto.left)))

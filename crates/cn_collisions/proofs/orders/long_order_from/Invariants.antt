@@ -1,6 +1,6 @@
 use Rattle.std.proofs.Common.{ℕ, ◌≡◌, ◌+◌, ◌<◌, []}
 use Rattle.cn_collisions.specs.OutcomeOrders.{NoneOfLength}
-use Rattle.cn_collisions.proofs.orders.first_order_into.Given as goal
+use Rattle.cn_collisions.proofs.orders.long_order_from.Given as goal
 
 -- no order of a length so far leads into the set, and the list is still empty
 abbrev pub invariant-loop-left : goal.invariant-loop-left
