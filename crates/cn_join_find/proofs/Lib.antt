@@ -5,3 +5,4 @@ pub mod CrossLemmas
 pub mod MarkLemmas
 pub mod SearchLemmas
 pub mod WitnessLemmas
+pub mod RenameLemmas

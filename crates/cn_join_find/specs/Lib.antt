@@ -2,3 +2,4 @@ pub mod Reached
 pub mod Steps
 pub mod Crossing
 pub mod Marks
+pub mod Renaming

@@ -1,6 +1,7 @@
 //! Joins that are evidence that a type is not n-discerning, or a witness that it is.
-ghost use Rattle.std.specs.Prelude.{◌≡◌, ◌≢◌, ◌≤◌, ◌<◌, ◌↔◌, ℕ, All, IfOk, IsTrue, MatchOption, OnOk, Some, false, length, slice_get, true};
+ghost use Rattle.std.specs.Prelude.{◌≡◌, ◌≢◌, ◌≤◌, ◌<◌, ◌↔◌, ℕ, All, IfOk, IsTrue, MatchOption, OnOk, Some, false, length, map, slice_get, true};
 ghost use Rattle.cn_choice.specs.Discerning.{IsDiscerning};
+ghost use Rattle.cn_copies.specs.Copies.{AreFirst};
 ghost use Rattle.cn_joins.specs.Evidence.{ConnectAll, IsEvidenceAgainst, SomeNotices};
 ghost use Rattle.cn_joins.specs.Joins.{IsJoin};
 ghost use Rattle.cn_stocks.specs.declared.limits.TheConstants.{MOST_SIZE};
@@ -11,12 +12,16 @@ ghost use Rattle.cn_join_find.specs.Reached.{AreMore, ConnectFrom, IsJoinFrom};
 use crate::likely::likely_split;
 use crate::marks::{Below, is_left, part_of};
 use crate::notices::some_notices;
+use crate::renaming::renamed_joins;
 use crate::split::{Split, split_by};
+use cn_copies::first_operations;
+use cn_copies::laws::copies_tell_nothing;
 use cn_joins::Join;
 use cn_joins::laws::{joins_decide, two_processes};
 use cn_outcomes::bits::contains;
 use cn_stocks::Threading;
-use cn_table::Table;
+use cn_table::laws::{tables_are_closed, tables_are_valid};
+use cn_table::{Operation, Table};
 use cn_telling::search::Search;
 use std::alloc::{AllocError, Global};
 use std::thread::Threads;
@@ -188,12 +193,64 @@ fn is_decided_by_one(table: &Table, n: u8) -> bool
     n == 2 && some_notices(table)
 }
 
+/// Joins that connect the operations of each stock of n from each state; none if one of these
+/// splits, so that the type is n-discerning.
+fn connecting_joins<T: Threads + Sync>(
+    rt: &T,
+    alloc: Global,
+    table: &Table,
+    n: u8,
+    threading: Threading,
+) -> Result<Option<Vec<Join>>, AllocError>
+    requires some { 2 ≤ n }
+    requires few { n ≤ MOST_SIZE }
+    ensures { IfOk result (λ found. MatchOption found (IsDiscerning table.now n)
+        (λ joins. All (IsJoin table.now) joins.items × ConnectAll table.now n joins.items)) }
+{
+    let mut joins = Vec::new(alloc);
+    let found = decide(rt, alloc, table, n, threading, &mut joins)?;
+    match found {
+        Some(_split) => Ok(None),
+        None => Ok(Some(joins)),
+    }
+}
+
+/// The same, from a search of the table with its first operations alone.
+fn joins_of_first<T: Threads + Sync>(
+    rt: &T,
+    alloc: Global,
+    table: &Table,
+    first: &[Operation],
+    n: u8,
+    threading: Threading,
+) -> Result<Option<Vec<Join>>, AllocError>
+    requires first { AreFirst table.now (map (λ o. o.0) first.now) }
+    requires some { 2 ≤ n }
+    requires few { n ≤ MOST_SIZE }
+    ensures { IfOk result (λ found. MatchOption found (IsDiscerning table.now n)
+        (λ joins. All (IsJoin table.now) joins.items × ConnectAll table.now n joins.items)) }
+{
+    tables_are_valid(table);
+    tables_are_closed();
+    copies_tell_nothing();
+    let smaller = table.with_operations(alloc, first)?;
+    let found = connecting_joins(rt, alloc, &smaller, n, threading)?;
+    match found {
+        None => Ok(None),
+        Some(joins) => {
+            let renamed = renamed_joins(alloc, first, joins.as_slice())?;
+            Ok(Some(renamed))
+        }
+    }
+}
+
 /// Joins that are evidence that the type is not n-discerning, and none if it is. n is from 2 to
 /// [`MOST_SIZE`](cn_stocks::limits::MOST_SIZE).
 ///
 /// From each state the search goes up by one operation. Smaller stocks that joins connect connect
 /// most others. Of the rest, one that tells has no joins, and of each other one the pairs that words
-/// within it show are made, and give the next joins.
+/// within it show are made, and give the next joins. Operations that are copies of earlier ones are
+/// left out.
 ///
 /// # Errors
 ///
@@ -215,12 +272,11 @@ pub fn find_joins<T: Threads + Sync>(
     if is_decided_by_one(table, n) {
         return Ok(None);
     }
-    let mut joins = Vec::new(alloc);
-    let found = decide(rt, alloc, table, n, threading, &mut joins)?;
-    match found {
-        Some(_split) => Ok(None),
-        None => Ok(Some(joins)),
+    let first = first_operations(alloc, table)?;
+    if first.len() == table.operations() as usize {
+        return connecting_joins(rt, alloc, table, n, threading);
     }
+    joins_of_first(rt, alloc, table, first.as_slice(), n, threading)
 }
 
 /// A witness that the type is n-discerning, and none if it is not. n is from 3 to

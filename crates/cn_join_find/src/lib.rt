@@ -4,6 +4,9 @@
 //! [`find_witness`] a witness that it is, for n from 3 on. Most stocks are connected by smaller ones.
 //! Of the others that do not tell the pairs that words within them show are made.
 //!
+//! The search for joins leaves out operations that are copies of earlier ones. Its joins then get the
+//! numbers that their operations have in the whole table.
+//!
 //! ```text
 //! let joins = find_joins(rt, alloc, &table, 10, Threading::Many)?;
 //! ```
@@ -17,6 +20,7 @@ mod marks;
 mod meeting;
 mod notices;
 mod reach;
+mod renaming;
 mod split;
 mod steps;
 #[cfg(test)]

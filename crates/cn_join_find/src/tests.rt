@@ -31,6 +31,36 @@ fn joins_of_three_shot(rt: HostRuntime) -> Result<(), Fail> {
     Ok(())
 }
 
+fn test_and_set_twice() -> &'static str {
+    r#"name = "test_and_set_twice"
+states = ["free", "taken"]
+responses = ["won", "lost"]
+[[operation]]
+name = "take"
+response = ["won", "lost"]
+next = ["taken", "taken"]
+[[operation]]
+name = "take_too"
+response = ["won", "lost"]
+next = ["taken", "taken"]
+[[operation]]
+name = "look"
+response = ["won", "lost"]
+next = ["free", "taken"]
+"#
+}
+
+#[test]
+fn joins_behind_a_copy(rt: HostRuntime) -> Result<(), Fail> {
+    let alloc = rt.alloc();
+    let table = read_table(alloc, test_and_set_twice().as_bytes())?;
+    let none = find_joins(&rt, alloc, &table, 2, Threading::One)?;
+    assert!(rt; none.is_none());
+    let joins = find_joins(&rt, alloc, &table, 3, Threading::One)?;
+    assert!(rt; joins.is_some_and(|joins| !joins.is_empty()));
+    Ok(())
+}
+
 #[test]
 fn witness_of_three_shot(rt: HostRuntime) -> Result<(), Fail> {
     let alloc = rt.alloc();

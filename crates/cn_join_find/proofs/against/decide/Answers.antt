@@ -47,4 +47,4 @@ loop-start-preserved g c =
 pub returns : goal.returns
 returns g c =
     let v = c.loop-start.invariant in
-    (v.are, λ start known. v.connect start (omega (arith, known, c.loop-start-test.false, c.states-start-end.ensures.number)))
+    (v.are, λ start known stock in_table long none. v.connect start (omega (arith, known, c.loop-start-test.false, c.states-start-end.ensures.number)) stock in_table long)
