@@ -55,8 +55,8 @@ fn is_within_some(set: &[Operation], known: &[SetNumber], number: ConsensusNumbe
     false
 }
 
-/// Whether the type with these operations alone has its number. With fewer operations than a set
-/// that has another number it has another number too, and needs no search.
+/// Whether the type has its number with these operations alone. A set within one that has another
+/// number has another number too, and needs no search.
 fn has_number<T: Threads + Sync>(
     rt: &T,
     alloc: Global,
