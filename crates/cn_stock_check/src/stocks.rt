@@ -65,14 +65,7 @@ fn connect_from(
 {
     tables_are_valid(table);
     let needs = needs_of(alloc, joins, start)?;
-    all_connected(
-        alloc,
-        table,
-        needs.as_slice(),
-        [0; MOST_OPERATIONS],
-        0,
-        n,
-    )
+    all_connected(alloc, table, needs.as_slice(), [0; MOST_OPERATIONS], 0, n)
 }
 
 /// The first state from which the joins do not connect each stock of n operations without copies, if
