@@ -1,5 +1,5 @@
 -- Joins of some of a type's operations, under their numbers in the type.
-use Rattle.std.proofs.Common.{◌≡◌, ℕ, zero, suc, ◌<◌, ◌≤◌, inl, inr, List, [], ◌∷◌, length, map, refl, sym, ap, ◌∙◌, subst, arith, All, Bool, Contains}
+use Rattle.std.proofs.Common.{◌≡◌, ℕ, ◌<◌, ◌≤◌, inl, inr, List, [], ◌∷◌, length, map, refl, sym, ap, ◌∙◌, subst, arith, All, Bool, Contains}
 use Rattle.std.specs.Prelude.{slice_index, slice_index_or}
 use Rattle.std.proofs.lemmas.List.{get_or-map, length-map}
 use Rattle.std.proofs.lemmas.List.Elements.{All-contains, All-map, All-weaker}
@@ -14,8 +14,8 @@ use Rattle.cn_copies.proofs.Picked.{picked_at, picked_step, place, place_at}
 use Rattle.cn_stocks.specs.Words.{IsKnown, IsWithin, times}
 use Rattle.cn_stocks.proofs.StockLemmas.{before_or_behind}
 use Rattle.cn_stocks.proofs.Times.{one_else, one_of, same_or, times_at, times_cons, times_none}
-use Rattle.cn_joins.specs.Evidence.{ConnectAll, HasNoCopies, HasRowOfEarlier, HaveSameRows, row_of}
-use Rattle.cn_joins.specs.Joins.{Connect, IsJoin, IsJoinWithin, IsPlacedWord, Join, KeepsApart, PlacedWord, beginning, pair_of_word}
+use Rattle.cn_joins.specs.Evidence.{ConnectAll, HasNoCopies, HasRowOfEarlier, row_of}
+use Rattle.cn_joins.specs.Joins.{Connect, IsJoin, IsJoinWithin, IsPlacedWord, Join, KeepsApart, PlacedWord, pair_of_word}
 use Rattle.cn_join_find.specs.Renaming.{IsOfFirst, renamed, renamed_placed}
 
 -- ---- lists that are mapped

@@ -1,4 +1,4 @@
-use Rattle.std.proofs.Common.{◌∙◌, inr, subst, sym, true≢false}
+use Rattle.std.proofs.Common.{inr, subst, sym}
 use Rattle.cn_choice.specs.Discerning.{IsDiscerning}
 use Rattle.cn_join_find.proofs.against.find_joins.Goals as goal
 
