@@ -75,8 +75,7 @@ class Type:  # states, operations, processes and entries have numbers, from 0
     def check_stocks(self, certificate):  # a witness, or operations that last; and joins that leave the operations of each stock of one more in one part
         low, high, key, shown, most = self.bounds_of(certificate)
         demand(max(low or 0, high or 0) <= MOST_STATES and (most is None) == (high is None), "the bounds")
-        numbers = flat([shown, [] if most is None else most])
-        demand(are_numbers(numbers) and max(numbers, default=0) < 256, "a number of the evidence")
+        demand(are_numbers(numbers := flat([shown, [] if most is None else most])) and max(numbers, default=0) < 256, "a number of the evidence")
         ways = {None: lambda: low == 1, "witness": lambda: self.tells(low, *shown), "lasting": lambda: low is None and self.last(*shown)}
         demand(ways[key](), "the lower bound is not shown")
         for place, join in enumerate(most or []):
