@@ -82,9 +82,10 @@ class Type:  # states, operations, processes and entries have numbers, from 0
         for place, join in enumerate(most or []):
             demand(self.is_join(*join), f"join {place}: none")
         demand(high != 1 or all(row[last][0] == response for row in self.act for response, last in row), "one operation tells two processes")
+        firsts = [o for o, row in enumerate(self.act) if row not in self.act[:o]]  # without copies: what does all that an earlier operation does
         for start in range(len(self.states)) if high else ():
-            needs = [(collections.Counter(one) | collections.Counter(two), one[0], two[0]) for q, one, _, two, _ in most if q == start]
-            self.connect(needs, [], 0, high + 1)
+            needs = [(collections.Counter(one) | collections.Counter(two), one[0], two[0]) for q, one, _, two, _ in most if q == start and {*one, *two} <= {*firsts}]
+            self.connect(needs, [], firsts, high + 1)
     def tells(self, n, start, a, b):  # each team has other operations; each operation sees which team was first, whatever words within all of them are done
         self.check_known(start, a, b)
         if n == 2: return len(a) == len(b) == 1 and self.is_witness(start, a, b)
@@ -110,13 +111,13 @@ class Type:  # states, operations, processes and entries have numbers, from 0
         demand(i < len(one) and j < len(two) and one[i] == two[j], "a place that is none, or two operations")
         (shown, last), (other, end) = (self.run(start, word, range(len(word))) for word in (one, two))
         return (shown[i], last) == (other[j], end)
-    def connect(self, needs, there, o, left):  # all stocks with these operations and so many more, from this one on
-        if o == len(self.act):
+    def connect(self, needs, there, others, left):  # all stocks with these operations and so many more of the others
+        if not others:
             part = {*there[:1]}
             while more := {x for _, *pair in needs for x in pair if part & {*pair}} - part: part |= more
             return demand(part >= {*there}, f"joins do not connect {there}")
-        for count in range(left if o + 1 == len(self.act) else 0, left + 1):
-            self.connect([it for it in needs if it[0][o] <= count], there + [o] * (count > 0), o + 1, left - count)
+        for count in range(0 if others[1:] else left, left + 1):
+            self.connect([it for it in needs if it[0][others[0]] <= count], there + others[:1] * (count > 0), others[1:], left - count)
     def is_team_witness(self, start, look, operations, team_of):  # by its response, and by what it sees of the last state, each process tells the first team
         seen = [look and q if type(look) is bool else self.act[look][q][0] for q in range(len(self.states))]
         told, everyone = {}, range(len(operations))  # what a process has seen, and the team that was first then

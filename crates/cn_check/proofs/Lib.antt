@@ -1,11 +1,13 @@
 pub mod CollisionLemmas
 pub mod EntryLemmas
 pub mod EntryTextLemmas
+pub mod LineLemmas
 pub mod PassLemmas
 pub mod PieceLemmas
 pub mod ShownLemmas
 pub mod FaultLemmas
 pub mod RefutationLemmas
+pub mod OrderLemmas
 pub mod OutcomeSetLemmas
 pub mod RunLemmas
 pub mod SetLemmas

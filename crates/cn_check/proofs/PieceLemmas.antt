@@ -106,13 +106,11 @@ pub read_first : (bytes out left : List ℕ) → out ≡ [] → bytes ≡ 91 ∷
 read_first bytes out left none e n ns rest f =
     e ∙ (ap (λ (v : List ℕ). 91 ∷ v) (f ∙ sym (append_assoc (decimal n) (items_text true (numbers ns)) rest)) ∙ ap (λ (xs : List ℕ). compact_text (numbers_data (xs ++ n ∷ ns)) ++ rest) (sym none))
 
--- ---- the greatest of the first numbers
-
-pub greatest_past : (list : List ℕ) (i before after : ℕ) → i < length list → before ≤ after → get_or list i 0 ≤ after → All (λ p. p ≤ before) (take i list) → All (λ p. p ≤ after) (take (i + 1) list)
-greatest_past list i before after inside low own all =
-    subst (λ (xs : List ℕ). All (λ p. p ≤ after) xs) (sym (take_next list i inside))
-    (All-append (λ p. p ≤ after) (take i list) (get_or list i 0 ∷ []) (All-weaker (λ p. p ≤ before) (λ p. p ≤ after) (λ p l. omega (arith, l, low)) (take i list) all)
-    (All-from_recursion (λ p. p ≤ after) (get_or list i 0 ∷ []) (own, tt)))
+pub greatest_read : (before after p : ℕ) (out new : List ℕ) → new ≡ out ++ p ∷ [] → before ≤ after → p ≤ after → All (λ q. q ≤ before) out → All (λ q. q ≤ after) new
+greatest_read before after p out new e low own all =
+    subst (λ (xs : List ℕ). All (λ q. q ≤ after) xs) (sym e)
+    (All-append (λ q. q ≤ after) out (p ∷ []) (All-weaker (λ q. q ≤ before) (λ q. q ≤ after) (λ q l. omega (arith, l, low)) out all)
+    (All-from_recursion (λ q. q ≤ after) (p ∷ []) (own, tt)))
 
 -- ---- numbers one by one
 

@@ -1,11 +1,12 @@
 -- How far the choices have been gone through.
-use Rattle.std.proofs.Common.{◌≡◌, ℕ, zero, suc, ◌+◌, ◌≤◌, inl, inr, List, [], ◌∷◌, ◌++◌, length, length-append, map, drop, append-nil, append_assoc, refl, sym, ap, ◌∙◌, subst, arith, Bool, true, false, cond, ◌&&◌, ◌||◌, ◌==◌, ◌↔◌, Option, Some, None, Contains}
+use Rattle.std.proofs.Common.{◌≡◌, ℕ, zero, suc, ◌+◌, ◌<◌, ◌≤◌, inl, inr, List, [], ◌∷◌, ◌++◌, length, length-append, map, drop, append-nil, append_assoc, refl, sym, ap, ◌∙◌, subst, arith, All, Bool, true, false, cond, not, ◌&&◌, ◌||◌, ◌==◌, ◌↔◌, Option, Some, None, Contains}
 use Rattle.std.specs.Prelude.{slice_get, IsSomeAnd}
-use Rattle.std.specs.List.{AllZip, filter, flat_map, range_with_len}
+use Rattle.std.specs.List.{AllByRecursion, AllZip, filter, flat_map, range_with_len}
 use Rattle.std.proofs.lemmas.Bool.{and_right, cases_order}
-use Rattle.std.proofs.lemmas.List.Elements.{filter-append}
+use Rattle.std.proofs.lemmas.List.Elements.{filter-append, recursion_from_All}
+use Rattle.std.proofs.lemmas.List.Folds.{list_all-append}
 use Rattle.std.proofs.lemmas.Option.{get_or_from_slice_get, none-some, same_Some, slice_get_past, slice_get_within}
-use Rattle.cn_table.specs.TypeTable.{TypeTable}
+use Rattle.cn_table.specs.TypeTable.{TypeTable, transition}
 use Rattle.cn_choice.specs.Canonical.{Choice, FitsTable, IsCanonical, canonical_choices, raw_choice_of, with_state}
 use Rattle.cn_choice.specs.Collisions.{Collision}
 use Rattle.cn_choice.specs.Live.{IsLive, all_move, live_choices}
@@ -87,6 +88,21 @@ module _ (version : ℕ) (t : TypeTable) (state : ℕ) (a : List ℕ) where
   pub none_counts : (bs : List (List ℕ)) → all_count version t state a ≡ false → counting version t (beside bs) ≡ []
   none_counts [] e = refl
   none_counts (b ∷ bs) e = rw e (none_counts bs e)
+
+-- where each operation of the table counts, each list of them does
+pub each_counts : (version : ℕ) (t : TypeTable) (state : ℕ) → ((o : ℕ) → o < length t.operations → all_count version t state (o ∷ []) ≡ true) → (os : List ℕ)
+    → All (λ o. o < length t.operations) os → all_count version t state os ≡ true
+each_counts version t state each os known = by_version (version == 1) refl
+  where
+    moving : (version == 1) ≡ false → (os : List ℕ) → AllByRecursion (λ o. o < length t.operations) os → all_move t state os ≡ true
+    moving e [] h = refl
+    moving e (o ∷ os) h =
+        let one = rw e at each o h.0 in
+        list_all-append (λ operation. not ((transition t operation state).1 == state)) (o ∷ []) os ∙ rw (one, moving e os h.1) refl
+
+    by_version : (one : Bool) → (version == 1) ≡ one → all_count version t state os ≡ true
+    by_version true e = rw e refl
+    by_version false e = rw e (moving e os (recursion_from_All (λ o. o < length t.operations) os known))
 
 -- ---- one part of the choices after the other
 

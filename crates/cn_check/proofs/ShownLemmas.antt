@@ -1,5 +1,5 @@
 -- What an order shows if processes that are not in it change their operations.
-use Rattle.std.proofs.Common.{◌≡◌, ℕ, zero, suc, ◌+◌, ◌<◌, ◌≤◌, List, [], ◌∷◌, ◌++◌, length, length-append, take, get_or, refl, sym, ap, ◌∙◌, subst, arith, All, replicate, Option, Some, None, IfSome}
+use Rattle.std.proofs.Common.{◌≡◌, ℕ, zero, suc, ◌+◌, ◌<◌, ◌≤◌, List, [], ◌∷◌, ◌++◌, length, length-append, take, get_or, refl, sym, ap, ◌∙◌, subst, arith, All, replicate}
 use Rattle.std.specs.Prelude.{option_map, position, slice_index, ◌==◌}
 use Rattle.std.specs.List.{AllByRecursion}
 use Rattle.std.proofs.lemmas.List.Elements.{recursion_from_All}
@@ -85,8 +85,3 @@ shown_still t state a b d text greatest place long same below is =
       alpha_up_to = is.alpha_up_to;
       beta_up_to = is.beta_up_to;
     }
-
--- what holds of something that is kept
-pub kept_holds : {X : Type 0} (shown result : Option X) (P Q R : X → Type 0) → IfSome result (λ s. (shown ≡ Some s) × R s) → IfSome shown P → ((s : X) → P s → R s → Q s) → IfSome result Q
-kept_holds shown None P Q R h k f = tt
-kept_holds shown (Some s) P Q R h k f = let holds : P s = subst (λ o. IfSome o P) h.0 k in f s holds h.1

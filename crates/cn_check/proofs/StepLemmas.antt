@@ -63,6 +63,12 @@ raise_more xs ys place later value l inside e =
     ∙ (set-append_right (take place xs) (replicate (later - place) value ++ drop (later - place) (drop place xs)) place later value front l
     ∙ ap (λ (zs : List ℕ). take place xs ++ zs) (more ∙ ap (λ (k : ℕ). replicate k value ++ drop k (drop place xs)) next))
 
+pub raise_first : (xs : List ℕ) (place value : ℕ) → place < length xs → set xs place value ≡ take place xs ++ (replicate (place + 1 - place) value ++ drop (place + 1 - place) (drop place xs))
+raise_first xs place value inside =
+    let none : place - place ≡ 0 = omega arith in
+    raise_more xs xs place place value (omega arith) inside
+    (sym (take-append-drop place xs) ∙ ap (λ (k : ℕ). take place xs ++ (replicate k value ++ drop k (drop place xs))) (sym none))
+
 -- the front of a list stays, whatever comes behind it
 pub taken_twice : (place : ℕ) (xs behind : List ℕ) → place ≤ length xs → take place (take place xs ++ behind) ≡ take place xs
 taken_twice place xs behind fits =

@@ -23,7 +23,7 @@ pub record IsWalked (t : TypeTable) (c : RawChoice) (order : List ℕ) (process 
   pub response : first_some kept (response_of process (drop i order) (responses_along t state (operations_of c (drop i order)))) ≡ response_of process order
       (responses_along t c.state (operations_of c order))
 
-first_none : (kept : Option ℕ) → first_some kept None ≡ kept
+pub first_none : (kept : Option ℕ) → first_some kept None ≡ kept
 first_none None = refl
 first_none (Some x) = refl
 

@@ -1,5 +1,5 @@
 -- The entries of a certificate in its written text.
-use Rattle.std.specs.Prelude.{◌≡◌, ℕ, ◌≤◌, List, ◌++◌, All, true, codes, decimal, nat_le, ◌-◌}
+use Rattle.std.specs.Prelude.{◌≡◌, ℕ, ◌<◌, ◌≤◌, List, ◌++◌, All, IfSome, true, codes, decimal, length, nat_le, take, ◌-◌, Option}
 use Rattle.std.specs.List.{AllZip, list_all}
 use Rattle.serde_json.specs.Written.{compact_text}
 use Rattle.cn_table.specs.TypeTable.{TypeTable}
@@ -39,6 +39,29 @@ pub record IsShown (t : TypeTable) (c : Choice) (text : List ℕ) (greatest : �
   pub spelled : text ≡ evidence_text entry
   pub alpha_up_to : All (λ p. p ≤ greatest) entry.alpha
   pub beta_up_to : All (λ p. p ≤ greatest) entry.beta
+
+-- the line is the text of a right entry of the choice; no process above this one moves in its orders
+abbrev pub IsLine : TypeTable → Choice → List ℕ → ℕ → Type 0
+IsLine t c line greatest = (text : List ℕ) × IsShown t c text greatest
+    × (line ≡ head_text c.state c.a ++ (compact_text (numbers_data c.b) ++ (codes "," ++ text)))
+
+-- if there is a greatest process, the line is such a text
+abbrev pub IsKnown : TypeTable → Choice → List ℕ → Option ℕ → Type 0
+IsKnown t c line greatest = IfSome greatest (λ g. IsLine t c line g)
+
+-- the bytes begin with the text of a right entry of the choice
+abbrev pub BeginsWithEntry : TypeTable → Choice → List ℕ → List ℕ → Type 0
+BeginsWithEntry t c bytes rest = (line : List ℕ) × (greatest : ℕ) × IsLine t c line greatest
+    × (bytes ≡ line ++ rest)
+
+-- where the text of another list of small numbers stood behind so many bytes, that of this list
+-- stands now; the lists have the same length, and are the same before the place
+abbrev pub IsRespelled : ℕ → List ℕ → ℕ → List ℕ → List ℕ → Type 0
+IsRespelled first list place old new =
+    (front before behind : List ℕ) → length front ≡ first → length before ≡ length list
+    → All (λ n. n < MOST_PROCESSES) before → take place before ≡ take place list
+    → old ≡ front ++ (compact_text (numbers_data before) ++ behind)
+    → new ≡ front ++ (compact_text (numbers_data list) ++ behind)
 
 -- if the choices that are left are spelled from here on, then all of them are spelled from the
 -- start on

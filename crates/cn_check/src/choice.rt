@@ -1,7 +1,9 @@
 //! The processes of a choice, and whether it is one of a table.
-ghost use Rattle.std.specs.Prelude.{◌≡◌, ◌<◌, ◌≤◌, ◌+◌, ◌↔◌, length, slice_get, slice_index, All, IsTrue, Some};
+ghost use Rattle.std.specs.Prelude.{◌≡◌, ◌<◌, ◌≤◌, ◌+◌, ◌++◌, ◌↔◌, length, replicate, slice_get, slice_index, All, IsTrue, Some};
 ghost use Rattle.cn_choice.specs.Canonical.{FitsTable, raw_choice_of};
 ghost use Rattle.cn_choice.specs.RawChoices.{IsRawChoice};
+ghost use Rattle.cn_choice.specs.declared.limits.TheConstants.{MOST_PROCESSES};
+ghost use Rattle.cn_choice.specs.declared.team.Team.TheVariants.{A, B};
 
 use cn_choice::laws::choice_by_teams;
 use cn_choice::{Choice, Team};
@@ -50,11 +52,20 @@ pub(crate) fn processes(table: &Table, choice: &Choice) -> u8
     (choice.a.len() + choice.b.len()) as u8
 }
 
-pub(crate) fn operation_of(choice: &Choice, process: u8) -> Operation
-    requires { process < length choice.now.a + length choice.now.b }
-    ensures { result.0 ≡ slice_index (raw_choice_of choice.now).operations process }
+/// How many processes the teams have together.
+pub(crate) fn processes_in(teams: (&[u8], &[u8])) -> u8
+    requires { length teams.0.now + length teams.1.now ≤ MOST_PROCESSES }
+    ensures { result ≡ length teams.entry.0.now + length teams.entry.1.now }
 {
-    let (a, b) = (choice.a.as_slice(), choice.b.as_slice());
+    (teams.0.len() + teams.1.len()) as u8
+}
+
+/// The operation of the process, by the operations of the teams.
+pub(crate) fn operation_in(teams: (&[u8], &[u8]), process: u8) -> Operation
+    requires { process < length teams.0.now + length teams.1.now }
+    ensures { result.0 ≡ slice_index (teams.entry.0.now ++ teams.entry.1.now) process }
+{
+    let (a, b) = teams;
     let place = process as usize;
     if place < a.len() {
         Operation(a[place])
@@ -63,13 +74,29 @@ pub(crate) fn operation_of(choice: &Choice, process: u8) -> Operation
     }
 }
 
-pub(crate) fn team_of(choice: &Choice, process: u8) -> Team
+pub(crate) fn operation_of(choice: &Choice, process: u8) -> Operation
     requires { process < length choice.now.a + length choice.now.b }
-    ensures { slice_get (raw_choice_of choice.now).marks process ≡ Some result }
+    ensures { result.0 ≡ slice_index (raw_choice_of choice.now).operations process }
 {
-    if (process as usize) < choice.a.len() {
+    operation_in((choice.a.as_slice(), choice.b.as_slice()), process)
+}
+
+/// The team of the process, by the operations of the teams.
+pub(crate) fn team_in(teams: (&[u8], &[u8]), process: u8) -> Team
+    requires { process < length teams.0.now + length teams.1.now }
+    ensures { slice_get (replicate (length teams.entry.0.now) A ++ replicate (length teams.entry.1.now) B)
+        process ≡ Some result }
+{
+    if (process as usize) < teams.0.len() {
         Team::A
     } else {
         Team::B
     }
+}
+
+pub(crate) fn team_of(choice: &Choice, process: u8) -> Team
+    requires { process < length choice.now.a + length choice.now.b }
+    ensures { slice_get (raw_choice_of choice.now).marks process ≡ Some result }
+{
+    team_in((choice.a.as_slice(), choice.b.as_slice()), process)
 }

@@ -21,6 +21,7 @@ mod end_sets;
 mod entry;
 mod fault;
 pub mod laws;
+mod line;
 mod one_pass;
 mod pairs;
 mod pieces;

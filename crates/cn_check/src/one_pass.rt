@@ -1,17 +1,45 @@
 //! Whether the text of the entries refutes the choices that count in a version, in one pass.
-ghost use Rattle.std.specs.Prelude.{◌≡◌, ◌<◌, ◌≤◌, ◌+◌, [], length, All, IfSome, IsTrue, true};
+ghost use Rattle.std.specs.Prelude.{◌≡◌, ◌<◌, ◌≤◌, ◌+◌, [], ℕ, List, length, All, IfSome, IsTrue, true};
 ghost use Rattle.cn_choice.specs.declared.limits.TheConstants.{MOST_PROCESSES};
 ghost use Rattle.cn_choice.specs.Canonical.{with_first, with_size, with_state};
 ghost use Rattle.cn_check.specs.EntryTexts.{AreSpelled};
 ghost use Rattle.cn_check.specs.Refutations.{all_count, counting};
 ghost use Rattle.cn_check.specs.Versions.{choices_in_version};
 
-use crate::entry::{entry_behind, kept};
+use crate::entry::entry_behind;
+use crate::line::Line;
 use crate::pieces::head_of;
 use crate::refutation::all_count;
 use crate::steps::{first_beside, step, step_from, zeros};
 use cn_choice::laws::choice_by_teams;
 use cn_table::{State, Table};
+
+/// Whether each operation of the table counts in the version.
+fn each_counts(table: &Table, version: u8, state: State) -> bool
+    requires { state.0 < length table.now.states }
+    ensures { IsTrue result → (operations : List ℕ)
+        → All (λ operation. operation < length table.now.operations) operations
+        → all_count version table.now state.0 operations ≡ true }
+{
+    for operation in 0..table.operations() {
+        if !all_count(table, version, state, &[operation]) {
+            return false;
+        }
+    }
+    true
+}
+
+/// Whether the operations count in the version; they do if each operation of the table does.
+fn list_counts(each: bool, table: &Table, version: u8, state: State, operations: &[u8]) -> bool
+    requires state { state.0 < length table.now.states }
+    requires known { All (λ operation. operation < length table.now.operations) operations.now }
+    requires each { IsTrue each → (operations : List ℕ)
+        → All (λ operation. operation < length table.now.operations) operations
+        → all_count version table.now state.0 operations ≡ true }
+    ensures { result ≡ all_count version table.now state.0 operations.now }
+{
+    each || all_count(table, version, state, operations)
+}
 
 /// The bytes behind the entries of the choices of this state and this team A, whose operations
 /// count.
@@ -38,17 +66,16 @@ fn team_behind<'a>(
     let operations = table.operations();
     // At least one choice of this team A comes next.
     let head = head_of(bytes, state, a)?;
+    let each = each_counts(table, version, state);
     let mut b = first_beside(a, n);
-    let mut shown = None;
+    let mut line = Line::new();
     let mut left = bytes;
     loop {
-        if all_count(table, version, state, b.as_slice()) {
-            let (now, rest) = entry_behind(table, state, a, b.as_slice(), head, shown, left)?;
-            shown = Some(now);
-            left = rest;
+        if list_counts(each, table, version, state, b.as_slice()) {
+            left = entry_behind(table, state, a, b.as_slice(), head, &mut line, left)?;
         }
         match step_from(b.as_mut_slice(), operations) {
-            Some(place) => shown = kept(shown, a.len() + place),
+            Some(place) => line.follow(head.len(), a.len() + place, b.as_slice(), place),
             None => return Some(left),
         }
     }

@@ -1,5 +1,5 @@
 //! Pieces of the text of a certificate, each at the front of the bytes that are left.
-ghost use Rattle.std.specs.Prelude.{◌≡◌, ◌<◌, ◌++◌, ◌∷◌, ◌≤◌, ◌-◌, ℕ, List, IfSome, decimal, length, nat_le, true};
+ghost use Rattle.std.specs.Prelude.{◌≡◌, ◌<◌, ◌++◌, ◌∷◌, ◌≤◌, ◌-◌, ℕ, List, All, IfSome, decimal, length, nat_le, true};
 ghost use Rattle.std.specs.List.{list_all};
 ghost use Rattle.serde_json.specs.Written.{comma_if, compact_text};
 ghost use Rattle.cn_cert.specs.CertificateText.{numbers_data};
@@ -144,21 +144,31 @@ pub(crate) fn digit(bytes: &[u8]) -> Option<(u8, &[u8])>
     Some((n, rest))
 }
 
-/// The list of processes at the front of the bytes, and the bytes behind it. No order is empty, so
-/// an empty list counts as none.
-pub(crate) fn list(bytes: &[u8]) -> Option<(ArrayVec<u8, MOST_PROCESSES>, &[u8])>
+/// A number that neither is above.
+pub(crate) fn greater(first: u8, second: u8) -> u8
+    ensures { (first ≤ result) × (second ≤ result) }
+{
+    if first < second { second } else { first }
+}
+
+/// The list of processes at the front of the bytes, the greatest of them, and the bytes behind the
+/// list. No order is empty, so an empty list counts as none.
+pub(crate) fn list(bytes: &[u8]) -> Option<(ArrayVec<u8, MOST_PROCESSES>, u8, &[u8])>
     ensures text { IfSome result (λ r. bytes.now
-        ≡ compact_text (numbers_data r.0.items) ++ r.1.now) }
+        ≡ compact_text (numbers_data r.0.items) ++ r.2.now) }
     ensures short { IfSome result (λ r. is_short r.0.items ≡ true) }
+    ensures greatest { IfSome result (λ r. All (λ p. p ≤ r.1) r.0.items) }
 {
     let mut out = ArrayVec::new();
+    let mut greatest = 0;
     let first = behind(bytes, b'[')?;
     let mut left = first;
     for _ in 0..MOST_PROCESSES {
         let (process, after) = digit(left)?;
         out.push(process);
+        greatest = greater(greatest, process);
         if let Some(rest) = behind(after, b']') {
-            return Some((out, rest));
+            return Some((out, greatest, rest));
         }
         left = behind(after, b',')?;
     }

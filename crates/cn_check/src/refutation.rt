@@ -3,7 +3,8 @@ ghost use Rattle.std.specs.Prelude.{◌≡◌, ◌<◌, ◌≤◌, ◌+◌, ◌�
 ghost use Rattle.std.specs.List.{AllZip};
 ghost use Rattle.cn_choice.specs.declared.limits.TheConstants.{MOST_PROCESSES};
 ghost use Rattle.cn_choice.specs.Canonical.{with_first, with_size, with_state};
-ghost use Rattle.cn_choice.specs.Canonical.{FitsTable};
+ghost use Rattle.cn_choice.specs.Canonical.{FitsTable, raw_choice_of};
+ghost use Rattle.cn_choice.specs.Collisions.{IsCollision};
 ghost use Rattle.cn_choice.specs.Live.{all_move};
 ghost use Rattle.cn_check.specs.Conditions.{HoldsCollision, Refutes};
 ghost use Rattle.cn_check.specs.Refutations.{AreRefuted, ComeNext, HasComeTo, IsFirstEntryFault, all_count, counting};
@@ -26,15 +27,35 @@ fn are_one_pair(alpha: Option<(u8, u8)>, beta: Option<(u8, u8)>) -> bool
     }
 }
 
+/// Whether the process and the lists are a collision of the choice of this state and these teams.
+pub(crate) fn collide(
+    table: &Table,
+    state: State,
+    teams: (&[u8], &[u8]),
+    process: u8,
+    alpha: &[u8],
+    beta: &[u8],
+) -> bool
+    requires { FitsTable table.now
+        (record { state = state.0; a = teams.0.now; b = teams.1.now }) }
+    ensures { IsTrue result ↔ IsCollision table.now
+        (raw_choice_of (record { state = state.0; a = teams.entry.0.now; b = teams.entry.1.now }))
+        process alpha.now beta.now }
+{
+    let of_alpha = shown_pair(table, state, teams, Team::A, alpha, process);
+    let of_beta = shown_pair(table, state, teams, Team::B, beta, process);
+    are_one_pair(of_alpha, of_beta)
+}
+
 /// Whether the entry's process and lists are a collision of its choice.
 pub(crate) fn holds_collision(table: &Table, entry: &Collision) -> bool
     requires { FitsTable table.now entry.now.choice }
     ensures { IsTrue result ↔ HoldsCollision table.now entry.now }
 {
-    let (choice, process) = (&entry.choice, entry.process);
-    let alpha = shown_pair(table, choice, Team::A, entry.alpha.as_slice(), process);
-    let beta = shown_pair(table, choice, Team::B, entry.beta.as_slice(), process);
-    are_one_pair(alpha, beta)
+    let choice = &entry.choice;
+    let teams = (choice.a.as_slice(), choice.b.as_slice());
+    let (alpha, beta) = (entry.alpha.as_slice(), entry.beta.as_slice());
+    collide(table, choice.state, teams, entry.process, alpha, beta)
 }
 
 /// Whether the choice is the one of this state and these teams.

@@ -46,7 +46,9 @@ fn raise_from(list: &mut [u8], place: usize)
         ≡ take place list.old ++ replicate (length list.old - place) (get_or list.old place 0 + 1) }
 {
     let value = list[place] + 1;
-    for later in place..list.len() {
+    // Mostly the place is the last one, and no loop has to begin.
+    list[place] = value;
+    for later in place + 1..list.len() {
         list[later] = value;
     }
 }

@@ -90,6 +90,10 @@ none_of_none t raw team j set k e x o long leads = o.someone (empty x (long ∙ 
 pub team_few : (c : Choice) (raw : RawChoice) → raw ≡ raw_choice_of c → length c.a + length c.b ≡ length raw.operations
 team_few c raw same = sym (length-append c.a c.b) ∙ sym (ap (λ (r : RawChoice). length r.operations) same)
 
+pub team_rises : (c : Choice) (team : Team) → team_from c team ≤ team_to c team
+team_rises c A = omega arith
+team_rises c B = omega arith
+
 -- the processes of a team are processes of the choice
 pub team_in : (c : Choice) (raw : RawChoice) → raw ≡ raw_choice_of c → (team : Team) → team_to c team ≤ length raw.operations
 team_in c raw same A = omega (arith, team_few c raw same)

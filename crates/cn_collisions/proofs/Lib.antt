@@ -10,3 +10,4 @@ pub mod PrefixLemmas
 pub mod Gathering
 pub mod OpeningLemmas
 pub mod OutcomeLemmas
+pub mod EndingLemmas

@@ -1,50 +1,47 @@
--- The pairs of the orders of a team, from its openings.
-use Rattle.std.proofs.Common.{◌≡◌, ℕ, zero, suc, ◌<◌, ◌≤◌, ◌↔◌, inl, inr, List, length, sym, ◌∙◌, subst, arith, get_or}
-use Rattle.std.specs.Prelude.{IsBitSet}
+-- The pairs of the orders of a team, by their first process.
+use Rattle.std.proofs.Common.{◌≡◌, ℕ, ◌+◌, ◌^◌, ◌<◌, ◌≤◌, ◌↔◌, inl, inr, length, subst, arith}
+use Rattle.std.specs.Prelude.{IsBitSet, slice_index}
+use Rattle.std.specs.Int.Bits.{bit_or}
+use Rattle.cn_choice.specs.Moves.{answer_of, next_of}
 use Rattle.cn_outcomes.proofs.LastProcess.{zero_has_none}
+use Rattle.cn_outcomes.proofs.Packing.{below_or_last}
 use Rattle.cn_collisions.specs.declared.view.Prefix.{Prefix}
 use Rattle.cn_collisions.specs.declared.view.View.{View}
-use Rattle.cn_collisions.specs.declared.ways.Step.{Step}
-use Rattle.cn_collisions.specs.Steps.{AreOpenings, IsStep}
 use Rattle.cn_collisions.specs.Views.{IsStart}
-use Rattle.cn_collisions.specs.Ways.{StepWay, WayTo}
+use Rattle.cn_collisions.specs.Ways.{IsPassed, IsTried, StepWay, WayTo, seen_after}
 use Rattle.cn_collisions.proofs.WayLemmas.{step_exchanged}
 
-module _ (v : View) (r q : ℕ) where
+module _ (v : View) (low r q : ℕ) where
   -- some way to go on from the prefix ends with the pair
   abbrev pub EndsWith : Prefix → Type 0
   EndsWith at = (k : ℕ) × (k < length v.raw.now.operations) × WayTo v.sets.now.table.now v.raw.now v.process k at.used at.state.0 at.seen r q
 
-  -- some way from the step at the place
-  abbrev pub EndsFrom : List Step → ℕ → Type 0
-  EndsFrom steps k = (s : Step) × (get_or steps k s ≡ s) × EndsWith s.prefix
+  -- the process is one from low on, and some way that begins with it ends with the pair
+  abbrev pub Begins : ℕ → Type 0
+  Begins p = (low ≤ p) × StepWay v.sets.now.table.now v.raw.now v.process p r q
 
-  pub ends_here : (steps : List Step) (k : ℕ) (s : Step) → ((d : Step) → get_or steps k d ≡ s) → EndsWith s.prefix ↔ EndsFrom steps k
-  ends_here steps k s there = (λ h. (s, there s, h), λ h. subst (λ (x : Step). EndsWith x.prefix) (sym h.1 ∙ there h.0) h.2)
+  -- some process below the end is one
+  abbrev pub IsPairBelow : ℕ → Type 0
+  IsPairBelow end = (p : ℕ) × (p < end) × Begins p
 
-  module _ (low high : ℕ) (at : Prefix) (start : IsStart v at) (steps : List Step) (are : AreOpenings v low high at steps) (inside : high ≤ length v.raw.now.operations) where
-    abbrev pub Way : ℕ → Type 0
-    Way p = StepWay v.sets.now.table.now v.raw.now v.process p r q
+  module _ (at : Prefix) (start : IsStart v at) (p : ℕ) where
+    pub step_begins : low ≤ p → (next : Prefix) → next.used ≡ bit_or at.used (2 ^ p) → next.state.0 ≡ next_of v.sets.now.table.now v.raw.now p at.state.0
+        → next.seen ≡ seen_after v.process p (answer_of v.sets.now.table.now v.raw.now p at.state.0) at.seen → EndsWith next ↔ Begins p
+    step_begins from next used state seen =
+        let same : EndsWith next ↔ StepWay v.sets.now.table.now v.raw.now v.process p r q = rw (used, state, seen, start.used, start.state, start.seen) (λ h. h, λ h. h) in
+        (λ h. (from, same.0 h), λ h. same.1 h.1)
 
-    step_way : (s : Step) → IsStep v at s → EndsWith s.prefix ↔ Way s.process
-    step_way s is = rw (is.used, is.state, is.seen, start.used, start.state, start.seen) (λ h. h, λ h. h)
+    -- a process that is passed over begins no way to another pair
+    pub passed_begins : (tried : ℕ) → ((o : ℕ) → IsBitSet tried o → IsTried v.raw.now v.process low p at.used o) → IsPassed v.raw.now v.process at.used tried p
+        → p < length v.raw.now.operations → Begins p → IsPairBelow p
+    passed_begins tried known passed inside begins = elim passed [
+      | inl u ↦ absurd (zero_has_none p (subst (λ (x : ℕ). IsBitSet x p) start.used u))
+      | inr e ↦ (let t = known (slice_index v.raw.now.operations p) e.1 in
+          (t.0, t.2, (t.1, step_exchanged v.sets.now.table.now v.raw.now v.process t.0 p t.5 t.3 e.0 (omega (arith, t.2, inside)) inside r q begins.1)))
+    ]
 
-    pub from_openings : (k : ℕ) → k < length steps → EndsFrom steps k → (p : ℕ) × (low ≤ p) × (p < high) × Way p
-    from_openings k l h =
-        let is = subst (λ (x : Step). (low ≤ x.process) × (x.process < high) × IsStep v at x) h.1 (are.each k h.0 l) in
-        (h.0.process, is.0, is.1, (step_way h.0 is.2).0 h.2)
-
-    pub to_openings : (p : ℕ) → low ≤ p → p < high → Way p → (k : ℕ) × (k < length steps) × EndsFrom steps k
-    to_openings p from upto way = below (suc p) p from upto (omega arith) way
-      where
-        below : (end p : ℕ) → low ≤ p → p < high → p < end → Way p → (k : ℕ) × (k < length steps) × EndsFrom steps k
-        below zero p from upto l way = absurd (omega (arith, l))
-        below (suc end) p from upto l way = elim (are.every p from upto) [
-          | inl a ↦ (a.0, a.2, (a.1, a.3, (step_way a.1 (subst (λ (x : Step). IsStep v at x) a.3 (are.each a.0 a.1 a.2).2)).1 (subst Way (sym a.4) way)))
-          | inr c ↦ elim c [
-            | inl u ↦ absurd (zero_has_none p (subst (λ (x : ℕ). IsBitSet x p) start.used u))
-            | inr e ↦ (let t = e.1 in
-                below end t.0 t.1 (omega (arith, t.2, upto)) (omega (arith, t.2, l))
-                (step_exchanged v.sets.now.table.now v.raw.now v.process t.0 p t.5 t.3 e.0 (omega (arith, t.2, upto, inside)) (omega (arith, upto, inside)) r q way))
-          ]
-        ]
+    pub passed_below : (here : Type 0) → (Begins p → IsPairBelow p) → here ↔ IsPairBelow p → here ↔ IsPairBelow (p + 1)
+    passed_below here covered h = (
+      λ x. (let k = h.0 x in (k.0, omega (arith, k.1), k.2)),
+      λ x. h.1 (elim (below_or_last x.0 p x.1) [ inl l ↦ (x.0, l, x.2) | inr e ↦ covered (subst Begins e x.2) ]),
+    )

@@ -1,19 +1,22 @@
 -- The next process of an order.
-use Rattle.std.specs.Prelude.{◌≡◌, ℕ, ◌+◌, ◌-◌, ◌^◌, ◌<◌, ◌≤◌, ◌⊎◌, List, length, slice_index_or}
-use Rattle.std.specs.Prelude.{All, IsBitSet}
+use Rattle.std.specs.Prelude.{◌≡◌, ℕ, ◌+◌, ◌-◌, ◌^◌, ◌<◌, ◌≤◌, ◌⊎◌, List, [], ◌∷◌, length}
+use Rattle.std.specs.Prelude.{slice_index_or, All, IsBitSet, Option, None}
 use Rattle.std.specs.List.{AllPairs, Any, HoldsAt}
 use Rattle.std.specs.Int.Bits.{bit_or}
+use Rattle.cn_table.specs.declared.limits.TheConstants.{MOST_RESPONSES, MOST_STATES}
 use Rattle.cn_choice.specs.declared.team.Team.{Team}
 use Rattle.cn_choice.specs.Moves.{answer_of, next_of}
 use Rattle.cn_choice.specs.TeamOrders.{team_from, team_to}
 use Rattle.cn_stocks.specs.Pairs.{Has}
 use Rattle.cn_stocks.specs.declared.pair_sets.PairSet.{PairSet}
 use Rattle.cn_collisions.specs.declared.asked.Asked.{Asked}
+use Rattle.cn_collisions.specs.declared.endings.Ending.{Ending}
 use Rattle.cn_collisions.specs.declared.view.Prefix.{Prefix}
 use Rattle.cn_collisions.specs.declared.view.View.{View}
 use Rattle.cn_collisions.specs.declared.ways.Step.{Step}
 use Rattle.cn_collisions.specs.Views.{IsBegun, IsPrefix, moves_left}
-use Rattle.cn_collisions.specs.Ways.{IsCovered, LeadsNowhere, WayTo, seen_after}
+use Rattle.cn_collisions.specs.Ways.{IsCovered, IsFirstWay, LeadsNowhere, NoWay, WayTo}
+use Rattle.cn_collisions.specs.Ways.{seen_after}
 
 -- some way to go on with exactly so many processes leads into the set
 abbrev pub LeadsOnward : View → PairSet → ℕ → Prefix → Type 0
@@ -71,3 +74,31 @@ pub record IsFirstOnward (v : View) (set : PairSet) (left : ℕ) (steps : List S
 abbrev pub AreOpeningsOf : Asked → Team → List Step → Type 0
 AreOpeningsOf a team steps =
     AreOpenings a.view (team_from a.choice.now team) (team_to a.choice.now team) a.start steps
+
+-- no way of one process, which is within the bounds, leads into the set
+abbrev pub NoEnding : View → PairSet → ℕ → ℕ → ℕ → ℕ → Option ℕ → Type 0
+NoEnding v set low high used state seen =
+    NoWay v.sets.now.table.now v.raw.now v.process set 1 low high used state seen
+
+-- the process is the first way of one process into the set
+pub record IsFirstEnding (v : View) (set : PairSet) (low high used state : ℕ) (seen : Option ℕ)
+    (e : Ending) : Type 0 where
+  pub way : IsFirstWay v.sets.now.table.now v.raw.now v.process set 1 low high used state seen
+      (e.process ∷ []) (e.response, e.state)
+  pub answer : e.response < MOST_RESPONSES
+  pub known : e.state < MOST_STATES
+
+-- what the process in question has seen after a move of process p
+abbrev pub seen_behind : View → Prefix → ℕ → Option ℕ
+seen_behind v at p =
+    seen_after v.process p (answer_of v.sets.now.table.now v.raw.now p at.state.0) None
+
+-- the same behind process p, which moves first
+abbrev pub NoEndingBehind : View → PairSet → Prefix → ℕ → Type 0
+NoEndingBehind v set at p = NoEnding v set 0 (length v.raw.now.operations) (bit_or at.used (2 ^ p))
+    (next_of v.sets.now.table.now v.raw.now p at.state.0) (seen_behind v at p)
+
+abbrev pub IsFirstBehind : View → PairSet → Prefix → ℕ → Ending → Type 0
+IsFirstBehind v set at p =
+    IsFirstEnding v set 0 (length v.raw.now.operations) (bit_or at.used (2 ^ p))
+    (next_of v.sets.now.table.now v.raw.now p at.state.0) (seen_behind v at p)

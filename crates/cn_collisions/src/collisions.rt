@@ -9,7 +9,7 @@ ghost use Rattle.cn_stocks.specs.Pairs.{Has};
 ghost use Rattle.cn_collisions.specs.Views.{IsAsked};
 
 use crate::asked::Asked;
-use crate::orders::{first_order_into, outcomes, push_openings_of};
+use crate::orders::{first_order_into, outcomes};
 use arrayvec::ArrayVec;
 use cn_choice::{MOST_PROCESSES, Team};
 use cn_outcomes::bits::with;
@@ -42,15 +42,12 @@ pub(crate) fn collision_of(
     ensures first { IsTrue result → IsFirstCollision asked.now.view.sets.now.table.now
         asked.now.view.raw.now asked.now.view.process alpha.new.items beta.new.items }
 {
-    let (mut from_a, mut from_b) = (ArrayVec::new(), ArrayVec::new());
-    push_openings_of(asked, Team::A, &mut from_a);
-    push_openings_of(asked, Team::B, &mut from_b);
-    let pairs = outcomes(asked, Team::B, &from_b);
-    let Some((response, state)) = first_order_into(asked, Team::A, &from_a, &pairs, alpha) else {
+    let pairs = outcomes(asked, Team::B);
+    let Some((response, state)) = first_order_into(asked, Team::A, &pairs, alpha) else {
         return false;
     };
     let pair = only(response, state);
-    let Some(_pair) = first_order_into(asked, Team::B, &from_b, &pair, beta) else {
+    let Some(_pair) = first_order_into(asked, Team::B, &pair, beta) else {
         unreachable!()
     };
     true

@@ -15,6 +15,7 @@
 
 mod asked;
 mod collisions;
+mod endings;
 mod examination;
 mod orders;
 mod places;

@@ -14,7 +14,7 @@ use cn_stocks::pair_sets::PairSet;
 
 /// Whether the process is tried next. It has not moved, and it is the process in question or none
 /// with its operation was tried.
-fn is_open(view: &View<'_>, used: u16, tried: u16, process: u8) -> bool
+pub(crate) fn is_open(view: &View<'_>, used: u16, tried: u16, process: u8) -> bool
     requires view { IsView view.now }
     requires process { process < length view.now.raw.now.operations }
     ensures open { IsTrue result
@@ -33,7 +33,7 @@ fn is_open(view: &View<'_>, used: u16, tried: u16, process: u8) -> bool
 }
 
 /// The operations tried, with that of the process. The process in question does not count.
-fn tried_after(view: &View<'_>, tried: u16, process: u8) -> u16
+pub(crate) fn tried_after(view: &View<'_>, tried: u16, process: u8) -> u16
     requires view { IsView view.now }
     requires process { process < length view.now.raw.now.operations }
     ensures { (o : ℕ) → IsBitSet result o ↔ (IsBitSet tried o

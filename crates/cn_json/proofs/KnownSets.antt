@@ -1,17 +1,17 @@
 -- The operations of sets of a type are operations of the type.
-use Rattle.std.proofs.Common.{◌≡◌, ◌≢◌, ℕ, suc, ◌<◌, ◌≤◌, List, [], ◌∷◌, length, map, get_or, take, All, arith, refl, sym, subst}
-use Rattle.std.specs.List.{filter}
+use Rattle.std.proofs.Common.{◌≡◌, ◌≢◌, ℕ, suc, ◌<◌, ◌≤◌, List, [], ◌∷◌, length, map, get_or, All, arith, refl, sym, subst}
 use Rattle.std.specs.Prelude.{Vec}
 use Rattle.std.specs.declared.alloc.Global.{Global}
 use Rattle.std.proofs.lemmas.List.{get_or_default}
-use Rattle.std.proofs.lemmas.List.Elements.{All-cons, All-filter, All-map, All-nil, All-take}
+use Rattle.std.proofs.lemmas.List.Elements.{All-cons, All-nil}
 use Rattle.cn_table.specs.Restriction.{AreOperations}
 use Rattle.cn_table.specs.TypeTable.{TypeTable}
 use Rattle.cn_table.specs.declared.elements.Operation.{Operation}
 use Rattle.cn_search.specs.declared.exact.ConsensusNumber.{ConsensusNumber}
 use Rattle.cn_pairs.specs.SetNumbers.{AreSetNumbers, numbers, set_lists, set_of, sets_of_size}
-use Rattle.cn_pairs.specs.Smallest.{AreSmallest, same_number}
+use Rattle.cn_pairs.specs.Smallest.{AreSmallest, HasNumberWith}
 use Rattle.cn_pairs.specs.declared.restricted.SetNumber.{SetNumber}
+use Rattle.cn_pairs.proofs.Firsts.{all_first}
 use Rattle.cn_pairs.proofs.SetLists.{set_is}
 use Rattle.cn_json.specs.Pairs.{AreKnown}
 
@@ -38,11 +38,7 @@ module _ (t : TypeTable) where
 
   listed : (number : ConsensusNumber) (sets : List (List ℕ)) → AreSmallest t number sets → All (AreOperations t) sets
   listed number sets s =
-      let kept : SetNumber → _ = λ x. same_number x.number number in
-      let all = sets_are s.size s.all s.some s.are in
-      subst (All (AreOperations t)) (sym s.first)
-      (All-map (AreOperations t) set_of (take 12 (filter kept s.all))
-      (All-take (λ x. AreOperations t (set_of x)) 12 (filter kept s.all) (All-filter kept (λ x. AreOperations t (set_of x)) s.all all)))
+      all_first (HasNumberWith t number) (AreOperations t) 12 (sets_of_size t s.size) sets s.first (all_are s.size s.some)
 
   -- the smallest sets
   pub known_smallest : (number : ConsensusNumber) (sets : Vec (Vec Operation Global) Global) → (sets.items ≢ [] → AreSmallest t number (set_lists sets)) → All (λ set. AreKnown t set.items) sets.items

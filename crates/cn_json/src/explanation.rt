@@ -1,5 +1,5 @@
 //! Why the number of a type is what it is, as JSON.
-ghost use Rattle.std.specs.Prelude.{◌≡◌, IfOk, IfSome, codes, string_bytes};
+ghost use Rattle.std.specs.Prelude.{◌≡◌, IfOk, IfSome, codes, length, string_bytes};
 ghost use Rattle.serde_json.specs.Written.{compact_text};
 ghost use Rattle.cn_reasons.specs.Explanation.{IsExplanation};
 ghost use Rattle.cn_reasons.specs.Known.{IsKnownPair, IsKnownRefutation, IsKnownWay};
@@ -17,6 +17,9 @@ use cn_reasons::{Explanation, Refutation, Way};
 use cn_sentences::ShortestCost;
 use cn_table::Table;
 use std::alloc::{AllocError, Global};
+
+/// About as many bytes as a collision takes. The text gets room for all of them at once.
+const COLLISION_BYTES: usize = 704;
 
 impl JsonValue for OperationPair {
     ghost IsKnown = { IsKnownPair };
@@ -52,18 +55,18 @@ pub(crate) fn rule_value<'a>(rule: Option<Rule>) -> Primitive<'a>
     }
 }
 
-/// Writes the key of the collisions, and those that are told.
+/// Writes the key of the collisions, and those that are told, each of which is let go.
 fn write_collisions(
     out: &mut JsonText,
     table: &Table,
-    refutation: &Option<Refutation<Way>>,
+    refutation: Option<Refutation<Way>>,
 ) -> Result<(), AllocError>
-    requires { IfSome refutation.now (IsKnownRefutation (IsKnownWay table.now)) }
+    requires { IfSome refutation (IsKnownRefutation (IsKnownWay table.now)) }
     ensures { Appends result out.old out.new (member_tokens (codes "collisions")
-        (list_data (collision_data table.now) (ways_told refutation.now))) }
+        (list_data (collision_data table.now) (ways_told refutation))) }
 {
     match refutation {
-        Some(refutation) => out.array_at("collisions", table, &refutation.ways),
+        Some(Refutation { ways, .. }) => out.array_of("collisions", table, ways),
         None => out.array_at::<Way>("collisions", table, &[]),
     }
 }
@@ -78,23 +81,34 @@ fn ways_left(refutation: &Option<Refutation<Way>>) -> usize
     }
 }
 
+/// How many collisions are told.
+fn told_count(refutation: &Option<Refutation<Way>>) -> usize
+    ensures { result ≡ length (ways_told refutation.now) }
+{
+    match refutation {
+        Some(refutation) => refutation.ways.len(),
+        None => 0,
+    }
+}
+
 fn write_explanation(
     out: &mut JsonText,
-    explanation: &Explanation,
+    explanation: Explanation,
     shortest: Option<ShortestCost>,
 ) -> Result<(), AllocError>
-    requires { IsExplanation explanation.now }
+    requires { IsExplanation explanation }
     ensures { Appends result out.old out.new
-        (value_tokens (explanation_data explanation.now shortest)) }
+        (value_tokens (explanation_data explanation shortest)) }
 {
-    let table = &explanation.table;
+    let refutation = explanation.refutation;
+    let (table, more) = (&explanation.table, ways_left(&refutation));
     out.begin_object()?;
     out.array_at("apart", table, &explanation.apart)?;
-    write_collisions(out, table, &explanation.refutation)?;
+    write_collisions(out, table, refutation)?;
     out.option_at("lasting", table, &explanation.lasting)?;
     out.members(&[
         ("limit", Byte(explanation.limit)),
-        ("more", Number(ways_left(&explanation.refutation) as u64)),
+        ("more", Number(more as u64)),
         ("name", Text(table.name())),
     ])?;
     out.key("number")?;
@@ -131,18 +145,19 @@ fn write_explanation(
 /// `AllocError` if memory runs out.
 pub fn explanation_json(
     alloc: Global,
-    explanation: &Explanation,
+    explanation: Explanation,
     shortest: Option<ShortestCost>,
 ) -> Result<String, AllocError>
-    requires { IsExplanation explanation.now }
+    requires { IsExplanation explanation }
     // promise: answers-as-json (explanation_data: rule_data, apart_data, lasting_data,
     //     witness_data, collision_data, ways_left)
     // promise: why-without-a-limit
     // promise: shortest-cost-by-why (explanation_data: shortest_data)
     ensures { IfOk result (λ text. string_bytes text
-        ≡ compact_text (explanation_data explanation.now shortest)) }
+        ≡ compact_text (explanation_data explanation shortest)) }
 {
-    let mut out = JsonText::new(alloc);
+    let told = told_count(&explanation.refutation);
+    let mut out = JsonText::with_capacity(alloc, told.saturating_mul(COLLISION_BYTES))?;
     write_explanation(&mut out, explanation, shortest)?;
     Ok(out.finish())
 }

@@ -1,5 +1,5 @@
 //! JSON texts, written token by token.
-ghost use Rattle.std.specs.Prelude.{◌≡◌, ◌++◌, ◌∷◌, [], decimal, string_bytes};
+ghost use Rattle.std.specs.Prelude.{◌≡◌, ◌++◌, ◌∷◌, [], decimal, string_bytes, IfOk};
 ghost use Rattle.json.specs.Token.{begin_array, begin_object, boolean, end_array, end_object, key, null, number, string};
 ghost use Rattle.serde_json.specs.Data.{Data};
 ghost use Rattle.serde_json.specs.Written.{compact_text};
@@ -49,6 +49,15 @@ impl JsonText {
         JsonText {
             writer: Writer::new(Vec::new(alloc)),
         }
+    }
+
+    /// With room for so many bytes.
+    pub(crate) fn with_capacity(alloc: Global, bytes: usize) -> Result<JsonText, AllocError>
+        ensures { IfOk result (λ text. text ≡ []) }
+    {
+        Ok(JsonText {
+            writer: Writer::new(Vec::with_capacity(alloc, bytes)?),
+        })
     }
 
     /// The compact text of the value whose tokens were written.

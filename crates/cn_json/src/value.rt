@@ -1,5 +1,5 @@
 //! Things with a JSON value, and the arrays of their values.
-ghost use Rattle.std.specs.Prelude.{All, IfSome, replicate};
+ghost use Rattle.std.specs.Prelude.{◌≡◌, All, IfSome, replicate};
 ghost use Rattle.cn_json.specs.Choices.{of_processes};
 ghost use Rattle.cn_json.specs.Tokens.{each_value, Appends, list_rest, member_tokens, value_tokens, values_rest};
 ghost use Rattle.cn_json.specs.Values.{list_data, option_data};
@@ -7,6 +7,9 @@ ghost use Rattle.cn_json.specs.Values.{list_data, option_data};
 use crate::json_text::JsonText;
 use cn_table::Table;
 use std::alloc::AllocError;
+
+/// Memory of things that are let go is given back after so many of them.
+const LET_GO: usize = 4096;
 
 /// What has a JSON value, in which the names are those of a table.
 pub(crate) trait JsonValue {
@@ -33,6 +36,15 @@ pub(crate) trait OfProcesses: JsonValue {
     /// The number of its processes.
     fn processes(&self) -> u8
         ensures { result ≡ count self.now };
+}
+
+/// Gives back the memory of things that are gone, of many at a time.
+fn let_go<T>(things: &mut Vec<T>)
+    ensures { things.new.items ≡ things.old.items }
+{
+    if things.len() % LET_GO == 0 {
+        things.shrink_to_fit();
+    }
 }
 
 impl JsonText {
@@ -74,6 +86,40 @@ impl JsonText {
     {
         self.key(name)?;
         self.array(table, things)
+    }
+
+    /// The values of an array, and its end. Each thing is let go behind its value, so that the text
+    /// and all things are never in memory together.
+    fn values_of<T: JsonValue + Drop>(
+        &mut self,
+        table: &Table,
+        mut things: Vec<T>,
+    ) -> Result<(), AllocError>
+        requires { All (T.IsKnown table.now) things.items }
+        ensures { Appends result self.old self.new (list_rest (T.json table.now) things.items) }
+    {
+        things.reverse();
+        while let Some(thing) = things.pop() {
+            thing.write(self, table)?;
+            let_go(&mut things);
+        }
+        self.end_array()
+    }
+
+    /// A key and an array with the value of each thing, which is let go.
+    pub(crate) fn array_of<T: JsonValue + Drop>(
+        &mut self,
+        name: &str,
+        table: &Table,
+        things: Vec<T>,
+    ) -> Result<(), AllocError>
+        requires { All (T.IsKnown table.now) things.items }
+        ensures { Appends result self.old self.new
+            (member_tokens name.now (list_data (T.json table.now) things.items)) }
+    {
+        self.key(name)?;
+        self.begin_array()?;
+        self.values_of(table, things)
     }
 
     /// The value of a thing, or null.

@@ -1,16 +1,16 @@
 -- The set of all operations of a type.
-use Rattle.std.proofs.Common.{◌≡◌, ℕ, zero, suc, ◌+◌, ◌<◌, List, [], ◌∷◌, length, map, get_or, false, refl, sym, ap, ◌∙◌, subst, arith, All, true≢false}
+use Rattle.std.proofs.Common.{◌≡◌, ℕ, zero, suc, ◌+◌, ◌<◌, ◌≤◌, inl, List, [], ◌∷◌, length, get_or, refl, sym, ap, ◌∙◌, subst, arith, All}
 use Rattle.std.specs.List.{range_with_len}
 use Rattle.std.proofs.lemmas.List.FromFn.{fill_by_all, length-range_with_len}
 use Rattle.cn_table.specs.Restriction.{with_operations}
 use Rattle.cn_table.specs.TypeTable.{Row, TypeTable, no_row}
 use Rattle.cn_search.specs.Numbers.{HasNumber}
 use Rattle.cn_search.specs.declared.exact.ConsensusNumber.{ConsensusNumber}
-use Rattle.cn_pairs.specs.SetNumbers.{IsSetNumber, set_of}
-use Rattle.cn_pairs.specs.Smallest.{NoneHas, same_number}
+use Rattle.cn_pairs.specs.Firsts.{AreFirst}
+use Rattle.cn_pairs.specs.SetNumbers.{sets_of_size}
+use Rattle.cn_pairs.specs.Smallest.{AreSmallest, HasNumberWith, NoneHas}
 use Rattle.cn_pairs.specs.Sublists.{sublists}
-use Rattle.cn_pairs.specs.declared.restricted.SetNumber.{SetNumber}
-use Rattle.cn_pairs.proofs.OneNumber.{one_number}
+use Rattle.cn_pairs.proofs.Firsts.{of_nothing}
 
 -- a list has no longer sublists, and of its own length only itself
 none_longer : (k : ℕ) (xs : List ℕ) → length xs < k → sublists k xs ≡ []
@@ -28,15 +28,31 @@ with_all : (t : TypeTable) → with_operations t (range_with_len 0 (length t.ope
 with_all t = ap (λ (rows : List Row). let u : TypeTable = record t { operations = rows } in u)
     (sym (fill_by_all (λ (o : ℕ). get_or t.operations o no_row) t.operations (length t.operations) no_row refl (λ k l. refl)))
 
--- so the set of all of them has its number
+-- so the set of all of them has its number, and is the only one of its size
+pub whole_has : (t : TypeTable) (number : ConsensusNumber) → HasNumber t number → HasNumberWith t number (range_with_len 0 (length t.operations))
+whole_has t number has = subst (λ (u : TypeTable). HasNumber u number) (sym (with_all t)) has
+
+whole_first : (t : TypeTable) (number : ConsensusNumber) → HasNumber t number
+    → AreFirst (HasNumberWith t number) 12 (sets_of_size t (length t.operations)) (range_with_len 0 (length t.operations) ∷ [])
+whole_first t number has =
+    let all : List ℕ = range_with_len 0 (length t.operations) in
+    subst (λ (sets : List (List ℕ)). AreFirst (HasNumberWith t number) 12 sets (all ∷ [])) (sym (itself 0 (length t.operations)))
+    (inl (whole_has t number has, [], refl, of_nothing (HasNumberWith t number) 11))
+
+-- if no smaller set has it, it is the smallest
+pub whole_smallest : (t : TypeTable) (number : ConsensusNumber) (size : ℕ) (sets : List (List ℕ)) → HasNumber t number → size ≡ length t.operations
+    → 1 ≤ size → sets ≡ sets_of_size t size → ((k : ℕ) → 1 ≤ k → k < length t.operations → NoneHas t k number) → AreSmallest t number sets
+whole_smallest t number size sets has same some e none =
+    let own : sets ≡ range_with_len 0 (length t.operations) ∷ [] = e ∙ (ap (sets_of_size t) same ∙ itself 0 (length t.operations)) in
+    record {
+      size = length t.operations;
+      some = omega (arith, some, same);
+      first = subst (AreFirst (HasNumberWith t number) 12 (sets_of_size t (length t.operations))) (sym own) (whole_first t number has);
+      found = λ empty. absurd (cc (own, empty));
+      none_smaller = none;
+    }
+
 pub whole_set : (t : TypeTable) (number : ConsensusNumber) → HasNumber t number → NoneHas t (length t.operations) number → ⊥
-whole_set t number has (told, are, none) = by_list told (are.listed ∙ itself 0 (length t.operations)) are.numbers none
-  where
-    by_list : (told : List SetNumber) → map set_of told ≡ range_with_len 0 (length t.operations) ∷ [] → All (IsSetNumber t) told
-        → All (λ s. same_number s.number number ≡ false) told → ⊥
-    by_list [] e numbers none = absurd (cc e)
-    by_list (s ∷ rest) e numbers none =
-        let set : set_of s ≡ range_with_len 0 (length t.operations) = cc e in
-        let own : HasNumber t s.number =
-        subst (λ (u : TypeTable). HasNumber u s.number) (ap (with_operations t) set ∙ with_all t) (numbers 0 s (omega arith)) in
-        true≢false (sym (one_number t s.number number own has) ∙ none 0 s (omega arith))
+whole_set t number has none =
+    let all : List ℕ = range_with_len 0 (length t.operations) in
+    (subst (All (λ set. ¬ HasNumberWith t number set)) (itself 0 (length t.operations)) none) 0 all (omega arith) (whole_has t number has)

@@ -1,3 +1,4 @@
 pub mod Sublists
+pub mod Firsts
 pub mod SetNumbers
 pub mod Smallest

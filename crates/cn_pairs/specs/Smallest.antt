@@ -1,10 +1,12 @@
 -- The smallest sets of operations of a type that have a number.
-use Rattle.std.specs.Prelude.{◌≡◌, ℕ, ◌<◌, ◌≤◌, ◌==◌, Bool, true, false, List, map, take, All, Contains}
-use Rattle.std.specs.List.{filter}
+use Rattle.std.specs.Prelude.{◌≡◌, ◌≢◌, ℕ, ◌<◌, ◌≤◌, ◌==◌, Bool, true, false, List, [], All, Contains}
+use Rattle.cn_table.specs.Restriction.{with_operations}
 use Rattle.cn_table.specs.TypeTable.{TypeTable}
+use Rattle.cn_search.specs.Numbers.{HasNumber}
 use Rattle.cn_search.specs.declared.exact.ConsensusNumber.{ConsensusNumber}
 use Rattle.cn_search.specs.declared.exact.ConsensusNumber.TheVariants.{Finite, Infinite}
-use Rattle.cn_pairs.specs.SetNumbers.{AreSetNumbers, set_of}
+use Rattle.cn_pairs.specs.Firsts.{AreFirst}
+use Rattle.cn_pairs.specs.SetNumbers.{set_of, sets_of_size}
 use Rattle.cn_pairs.specs.declared.restricted.SetNumber.{SetNumber}
 use Rattle.cn_pairs.specs.declared.smallest.TheConstants.{MOST_SETS}
 
@@ -18,18 +20,23 @@ same_number a b = false
 abbrev pub IsWithin : List ℕ → List ℕ → Type 0
 IsWithin set larger = (o : ℕ) → Contains set o → Contains larger o
 
--- no set of so many operations has this number, by the numbers of all of them
-abbrev pub NoneHas : TypeTable → ℕ → ConsensusNumber → Type 0
-NoneHas t size number =
-    (all : List SetNumber) × AreSetNumbers t size all
-    × All (λ s. same_number s.number number ≡ false) all
+-- a set is within this one, which has another number
+unfoldable pub IsWithinOther : List ℕ → ConsensusNumber → SetNumber → Type 0
+IsWithinOther set number larger =
+    (same_number larger.number number ≡ false) × IsWithin set (set_of larger)
 
--- the first sets of their size with this number, by the numbers of all sets of this size; no
--- smaller set has it
+-- the type with these operations alone has this number
+abbrev pub HasNumberWith : TypeTable → ConsensusNumber → List ℕ → Type 0
+HasNumberWith t number set = HasNumber (with_operations t set) number
+
+-- no set of so many operations has this number
+abbrev pub NoneHas : TypeTable → ℕ → ConsensusNumber → Type 0
+NoneHas t size number = All (λ set. ¬ HasNumberWith t number set) (sets_of_size t size)
+
+-- the first sets of their size with this number, and one at least; no smaller set has it
 pub record AreSmallest (t : TypeTable) (n : ConsensusNumber) (sets : List (List ℕ)) : Type 0 where
   pub size : ℕ
   pub some : 1 ≤ size
-  pub all : List SetNumber
-  pub are : AreSetNumbers t size all
-  pub first : sets ≡ map set_of (take MOST_SETS (filter (λ s. same_number s.number n) all))
+  pub first : AreFirst (HasNumberWith t n) MOST_SETS (sets_of_size t size) sets
+  pub found : sets ≢ []
   pub none_smaller : (k : ℕ) → 1 ≤ k → k < size → NoneHas t k n

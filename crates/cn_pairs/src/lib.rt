@@ -16,6 +16,7 @@
 pub mod laws;
 mod pairs;
 mod restricted;
+mod searched;
 mod sets;
 mod smallest;
 

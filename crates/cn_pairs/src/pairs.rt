@@ -1,8 +1,8 @@
 //! The numbers of the operations of a type, of their pairs, and of the type.
-ghost use Rattle.std.specs.Prelude.{◌≡◌, ◌≢◌, ◌≤◌, [], ℕ, IfOk, length};
+ghost use Rattle.std.specs.Prelude.{IfOk};
 ghost use Rattle.cn_search.specs.Numbers.{HasNumber};
 ghost use Rattle.cn_pairs.specs.SetNumbers.{AreSetNumbers, set_lists};
-ghost use Rattle.cn_pairs.specs.Smallest.{AreSmallest, NoneHas};
+ghost use Rattle.cn_pairs.specs.Smallest.{AreSmallest};
 
 use crate::restricted::{SetNumber, set_numbers};
 use crate::smallest::smallest_after_pairs;
@@ -45,11 +45,7 @@ pub fn pairs_of<T: Threads + Sync>(
     // promise: numbers-of-some-operations (AreSetNumbers)
     ensures pairs { IfOk result (λ p. AreSetNumbers table.now 2 p.pairs.items) }
     // promise: numbers-of-some-operations (AreSmallest)
-    ensures smallest { IfOk result (λ p. p.smallest.items ≢ []
-        → AreSmallest table.now p.number (set_lists p.smallest)) }
-    // promise: numbers-of-some-operations (NoneHas)
-    ensures none { IfOk result (λ p. p.smallest.items ≡ [] → (size : ℕ) → 1 ≤ size
-        → size ≤ length table.now.operations → NoneHas table.now size p.number) }
+    ensures smallest { IfOk result (λ p. AreSmallest table.now p.number (set_lists p.smallest)) }
 {
     let number = consensus_number(rt, alloc, table)?;
     let alone = set_numbers(rt, alloc, table, 1)?;

@@ -1,12 +1,15 @@
 //! The smallest sets of operations with the number of the type.
-ghost use Rattle.std.specs.Prelude.{◌≡◌, ◌≢◌, ◌≤◌, ◌<◌, ◌+◌, [], ℕ, IfOk, length, map, take};
+ghost use Rattle.std.specs.Prelude.{◌≡◌, ◌≢◌, ◌≤◌, ◌<◌, ◌-◌, [], ℕ, IfOk, length, map, take};
 ghost use Rattle.std.specs.List.{filter};
+ghost use Rattle.cn_search.specs.Numbers.{HasNumber};
 ghost use Rattle.cn_search.specs.declared.exact.ConsensusNumber.{ConsensusNumber};
 ghost use Rattle.cn_pairs.specs.SetNumbers.{AreSetNumbers, set_lists, set_of};
 ghost use Rattle.cn_pairs.specs.Smallest.{AreSmallest, NoneHas, same_number};
 ghost use Rattle.cn_pairs.specs.declared.smallest.TheConstants.{MOST_SETS};
 
 use crate::restricted::{SetNumber, set_numbers};
+use crate::searched::first_sets;
+use crate::sets::sets_of_size;
 use cn_search::ConsensusNumber;
 use cn_table::{Operation, Table};
 use std::alloc::{AllocError, Global};
@@ -16,7 +19,7 @@ use std::thread::Threads;
 pub const MOST_SETS: usize = 12;
 
 /// Whether the two are the same number.
-fn is_same(a: ConsensusNumber, b: ConsensusNumber) -> bool
+pub(crate) fn is_same(a: ConsensusNumber, b: ConsensusNumber) -> bool
     ensures { result ≡ same_number a b }
 {
     match (a, b) {
@@ -44,33 +47,62 @@ fn sets_with(
     Ok(found)
 }
 
-/// The smallest sets of operations that have this number, where no operation and no pair has it.
+/// The smallest sets of at least three operations with the number of the type, by the numbers of
+/// the sets of all operations but one. None if only the set of all operations has it.
+fn sets_of_fewer<T: Threads + Sync>(
+    rt: &T,
+    alloc: Global,
+    table: &Table,
+    number: ConsensusNumber,
+    known: &[SetNumber],
+) -> Result<Vec<Vec<Operation>>, AllocError>
+    requires number { HasNumber table.now number }
+    requires some { 4 ≤ length table.now.operations }
+    requires known { AreSetNumbers table.now (length table.now.operations - 1) known.now }
+    requires alone { NoneHas table.now 1 number }
+    requires pairs { NoneHas table.now 2 number }
+    ensures found { IfOk result (λ sets. sets.items ≢ []
+        → AreSmallest table.now number (set_lists sets)) }
+    ensures none { IfOk result (λ sets. sets.items ≡ [] → (size : ℕ) → 1 ≤ size
+        → size < length table.now.operations → NoneHas table.now size number) }
+{
+    for size in 3..table.operations() - 1 {
+        let found = first_sets(rt, alloc, table, number, known, size)?;
+        if !found.is_empty() {
+            return Ok(found);
+        }
+    }
+    sets_with(alloc, known, number)
+}
+
+/// The smallest sets of operations with the number of the type, where no operation and no pair
+/// has it.
 fn larger_sets<T: Threads + Sync>(
     rt: &T,
     alloc: Global,
     table: &Table,
     number: ConsensusNumber,
 ) -> Result<Vec<Vec<Operation>>, AllocError>
+    requires number { HasNumber table.now number }
     requires alone { NoneHas table.now 1 number }
     requires pairs { NoneHas table.now 2 number }
-    ensures found { IfOk result (λ sets. sets.items ≢ []
-        → AreSmallest table.now number (set_lists sets)) }
-    ensures none { IfOk result (λ sets. sets.items ≡ [] → (size : ℕ) → 1 ≤ size
-        → size ≤ length table.now.operations → NoneHas table.now size number) }
+    ensures { IfOk result (λ sets. AreSmallest table.now number (set_lists sets)) }
 {
-    for size in 3..table.operations() + 1 {
-        let sets = set_numbers(rt, alloc, table, size)?;
-        let found = sets_with(alloc, sets.as_slice(), number)?;
-        if !found.is_empty() {
-            return Ok(found);
-        }
+    let operations = table.operations();
+    if operations <= 3 {
+        return sets_of_size(alloc, table, operations);
     }
-    Ok(Vec::new(alloc))
+    let known = set_numbers(rt, alloc, table, operations - 1)?;
+    let found = sets_of_fewer(rt, alloc, table, number, known.as_slice())?;
+    if !found.is_empty() {
+        return Ok(found);
+    }
+    sets_of_size(alloc, table, operations)
 }
 
-/// The smallest sets of operations that have this number, from the numbers of each operation alone
-/// and of each pair: sets of one size, in lexicographic order of their ascending lists, and at most
-/// [`MOST_SETS`] of them. There is none if no set of operations has the number.
+/// The smallest sets of operations with the number of the type, from the numbers of each operation
+/// alone and of each pair: sets of one size, in lexicographic order of their ascending lists, and
+/// at most [`MOST_SETS`] of them.
 pub(crate) fn smallest_after_pairs<T: Threads + Sync>(
     rt: &T,
     alloc: Global,
@@ -79,14 +111,11 @@ pub(crate) fn smallest_after_pairs<T: Threads + Sync>(
     alone: &[SetNumber],
     pairs: &[SetNumber],
 ) -> Result<Vec<Vec<Operation>>, AllocError>
+    requires number { HasNumber table.now number }
     requires alone { AreSetNumbers table.now 1 alone.now }
     requires pairs { AreSetNumbers table.now 2 pairs.now }
     // promise: numbers-of-some-operations (AreSmallest)
-    ensures found { IfOk result (λ sets. sets.items ≢ []
-        → AreSmallest table.now number (set_lists sets)) }
-    // promise: numbers-of-some-operations (NoneHas)
-    ensures none { IfOk result (λ sets. sets.items ≡ [] → (size : ℕ) → 1 ≤ size
-        → size ≤ length table.now.operations → NoneHas table.now size number) }
+    ensures { IfOk result (λ sets. AreSmallest table.now number (set_lists sets)) }
 {
     let of_one = sets_with(alloc, alone, number)?;
     if !of_one.is_empty() {

@@ -1,5 +1,5 @@
 -- Faults in the order in which the check looks for them.
-use Rattle.std.proofs.Common.{◌≡◌, ◌≢◌, ℕ, ◌+◌, ◌<◌, ◌≤◌, ◌⊎◌, inl, inr, List, length, refl, sym, ap, subst, arith, Option, Some, None, All}
+use Rattle.std.proofs.Common.{◌≡◌, ◌≢◌, ℕ, ◌+◌, ◌<◌, ◌≤◌, ◌⊎◌, inl, inr, List, refl, sym, ap, subst, arith, Option, Some, None, All}
 use Rattle.std.specs.Prelude.{IsSomeAnd, slice_get}
 use Rattle.std.proofs.lemmas.List.Elements.{All-get_or}
 use Rattle.std.proofs.lemmas.Option.{get_or_from_slice_get, same_Some, slice_get_within}
@@ -97,7 +97,7 @@ module _ (t : TypeTable) (n : ℕ) (joins : List Join) where
     some_notices : (o : ℕ) → NoticesItselfSomewhere t o → SomeNotices t
     some_notices o h = (h.1.0, h.1.1, (o, h.0, h.1.2))
 
-    pub left_open : (state : ℕ) → (n ≡ 2 → ¬ SomeNotices t) → IsLeftOpen t n joins state → ((q : ℕ) → q < state → ConnectFrom (length t.operations) n joins q)
+    pub left_open : (state : ℕ) → (n ≡ 2 → ¬ SomeNotices t) → IsLeftOpen t n joins state → ((q : ℕ) → q < state → ConnectFrom t n joins q)
         → IsFirstJoinFault t n joins (fault.NotConnected state)
     left_open state quiet here first = record { holds = here; first = none }
       where
@@ -265,7 +265,7 @@ least_right t claim bound s fault.OutOfMemory h = h
 evidence_right : (t : TypeTable) (m : ℕ) (joins : List Join) → IsEvidenceAgainst t (m + 1) joins → (f : StockCheckFault) → ¬ HasMostFault t (Some joins) (Some m) f
 evidence_right t m joins e (fault.NotAJoin i) h = all_joins t joins i e.are_joins h
 evidence_right t m joins e (fault.NoticesItself o) h = e.none_notices (let one = same_Some m 1 h.0 in omega (arith, one)) (h.1.1.0, h.1.1.1, (o, h.1.0, h.1.1.2))
-evidence_right t m joins e (fault.NotConnected q) h = h.1 (λ stock known long. e.connect q h.0 stock known long)
+evidence_right t m joins e (fault.NotConnected q) h = h.1 (λ stock known long none. e.connect q h.0 stock known long none)
 evidence_right t m joins e fault.MostShape h = h tt
 evidence_right t m joins e fault.OtherType h = h
 evidence_right t m joins e fault.BadNumber h = h

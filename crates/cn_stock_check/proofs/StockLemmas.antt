@@ -1,11 +1,13 @@
 -- Stocks of some operations more.
 use Rattle.std.specs.Prelude.{IsTrue, slice_index}
-use Rattle.std.proofs.Common.{◌≡◌, ℕ, zero, suc, ◌+◌, ◌-◌, ◌<◌, ◌≤◌, inl, inr, ◌↔◌, List, [], ◌∷◌, ◌++◌, length, get_or, get_or-set_same, get_or-set_other, slice_set, refl, sym, ap, ◌∙◌, subst, arith, All, Bool, true, false, true≢false, Contains, append-nil}
+use Rattle.std.proofs.Common.{◌≡◌, ◌≢◌, ◌⊎◌, ℕ, zero, suc, ◌+◌, ◌-◌, ◌<◌, ◌≤◌, inl, inr, ◌↔◌, List, [], ◌∷◌, ◌++◌, length, get_or, get_or-set_same, get_or-set_other, slice_set, refl, sym, ap, ◌∙◌, subst, arith, All, Bool, true, false, true≢false, Contains, append-nil}
 use Rattle.std.proofs.lemmas.List.{get_or_past}
 use Rattle.std.proofs.lemmas.List.Elements.{All-get_or, All-set, All-weaker}
+use Rattle.cn_table.specs.TypeTable.{TypeTable}
 use Rattle.cn_stocks.specs.Words.{HaveSame, IsKnown, times}
 use Rattle.cn_stocks.proofs.StockLemmas.{before_or_behind}
 use Rattle.cn_stocks.proofs.Times.{one_at, one_else, same_or, same_sym, times_append, times_at, times_cons, times_last, times_none}
+use Rattle.cn_joins.specs.Evidence.{HasNoCopies, HasRowOfEarlier}
 use Rattle.cn_joins.specs.Joins.{Connect, IsJoinWithin, Join, KeepsApart}
 use Rattle.cn_joins.proofs.Finite.{without}
 use Rattle.cn_stock_check.specs.Needs.{AreFrom, AreNeedsOf, ConnectFrom, ConnectWith, HasCounts, HasNeed, IsNeedOf, NeedsConnect, NeedsKeepApart}
@@ -53,22 +55,25 @@ connect_same joins start a b same c chosen apart f g in_f in_g =
 
 -- ---- some operations more
 
-module _ (joins : List Join) (start : ℕ) where
-  pub connect_none : (stock : List ℕ) (next end : ℕ) → Connect joins start stock ↔ ConnectWith joins start stock next end 0
+no_copies_none : (t : TypeTable) → HasNoCopies t []
+no_copies_none t o l = absurd (omega (arith, l, times_none o))
+
+module _ (t : TypeTable) (joins : List Join) (start : ℕ) where
+  pub connect_none : (stock : List ℕ) (next end : ℕ) → Connect joins start stock ↔ ConnectWith t joins start stock next end 0
   connect_none stock next end = (
-    λ c rest long from. empty rest long c,
-    λ a. subst (Connect joins start) (append-nil stock) (a [] refl (λ o l. absurd (let z = times_none o in omega (arith, l, z)))),
+    λ c rest long from none. empty rest long c,
+    λ a. subst (Connect joins start) (append-nil stock) (a [] refl (λ o l. absurd (let z = times_none o in omega (arith, l, z))) (no_copies_none t)),
   )
     where
       empty : (rest : List ℕ) → length rest ≡ 0 → Connect joins start stock → Connect joins start (stock ++ rest)
       empty [] long c = subst (Connect joins start) (sym (append-nil stock)) c
       empty (o ∷ rest) long c = absurd (omega (arith, long))
 
-  pub connect_end : (stock : List ℕ) (end more : ℕ) → 1 ≤ more → ConnectWith joins start stock end end more
-  connect_end stock end more some [] long from = absurd (omega (arith, long, some))
-  connect_end stock end more some (o ∷ rest) long from = let f = from o (times_at o rest) in absurd (omega (arith, f.0, f.1))
+  pub connect_end : (stock : List ℕ) (end more : ℕ) → 1 ≤ more → ConnectWith t joins start stock end end more
+  connect_end stock end more some [] long from none = absurd (omega (arith, long, some))
+  connect_end stock end more some (o ∷ rest) long from none = let f = from o (times_at o rest) in absurd (omega (arith, f.0, f.1))
 
-  module _ (stock : List ℕ) (next end more : ℕ) (below : next < end) where
+  module _ (stock : List ℕ) (next end more : ℕ) where
     move : (rest : List ℕ) → HaveSame ((stock ++ next ∷ []) ++ rest) (stock ++ next ∷ rest)
     move rest o =
         let a = times_append o (stock ++ next ∷ []) rest in
@@ -84,30 +89,36 @@ module _ (joins : List Join) (start : ℕ) where
         let c = same o in
         omega (arith, a, b, c)
 
-    pub connect_more : ConnectWith joins start (stock ++ next ∷ []) next end more → ConnectWith joins start stock (next + 1) end (more + 1) → ConnectWith joins start stock next end (more + 1)
-    connect_more with_it later rest long from = elim (before_or_behind 0 (times next rest)) [
+    -- a list from the next one on that lacks it is from the one behind on
+    from_behind : (rest : List ℕ) → AreFrom next end rest → ((o : ℕ) → 1 ≤ times o rest → next ≢ o) → AreFrom (next + 1) end rest
+    from_behind rest from lacks o l = let f = from o l in let n = lacks o l in (omega (arith, f.0, n), f.1)
+
+    pub connect_more : ConnectWith t joins start (stock ++ next ∷ []) next end more → ConnectWith t joins start stock (next + 1) end (more + 1) → ConnectWith t joins start stock next end (more + 1)
+    connect_more with_it later rest long from none = elim (before_or_behind 0 (times next rest)) [
       | inl some ↦ (
           let r = without next rest (omega (arith, some)) in
-          let from_next : AreFrom next end r.0 = λ o l. from o (let e = r.1 o in let c = times_cons o next r.0 in omega (arith, e, c, l)) in
-          let c = with_it r.0 (omega (arith, r.2, long)) from_next in
+          let less : (o : ℕ) → 1 ≤ times o r.0 → 1 ≤ times o rest = λ o l. (let e = r.1 o in let c = times_cons o next r.0 in omega (arith, e, c, l)) in
+          let c = with_it r.0 (omega (arith, r.2, long)) (λ o l. from o (less o l)) (λ o l. none o (less o l)) in
           connect_same joins start (stock ++ next ∷ r.0) (stock ++ rest) (same_behind (next ∷ r.0) rest r.1) (connect_same joins start ((stock ++ next ∷ []) ++ r.0) (stock ++ next ∷ r.0) (move r.0) c)
           )
-      | inr none ↦ later rest long (λ o l. (let f = from o l in elim (same_or next o) [
-        | inl e ↦ absurd (let s : times next rest ≡ times o rest = ap (λ (x : ℕ). times x rest) e in omega (arith, s, none, l))
-        | inr n ↦ (omega (arith, f.0, n), f.1)
-      ]))
+      | inr lacks ↦ later rest long (from_behind rest from (λ o l e. (let s : times next rest ≡ times o rest = ap (λ (x : ℕ). times x rest) e in absurd (omega (arith, s, lacks, l))))) none
     ]
 
-    pub with_next : ConnectWith joins start stock next end (more + 1) → ConnectWith joins start (stock ++ next ∷ []) next end more
-    with_next a rest long from =
-        connect_same joins start (stock ++ next ∷ rest) ((stock ++ next ∷ []) ++ rest) (same_sym ((stock ++ next ∷ []) ++ rest) (stock ++ next ∷ rest) (move rest))
-        (a (next ∷ rest) (omega (arith, long)) (λ o l. elim (same_or next o) [
-          | inl e ↦ (omega (arith, e), omega (arith, e, below))
-          | inr n ↦ from o (let c = times_cons o next rest in let z = one_else o next n in omega (arith, c, z, l))
-        ]))
+    -- stocks with a copy need nothing
+    pub copy_passed : HasRowOfEarlier t next → ConnectWith t joins start stock (next + 1) end (more + 1) → ConnectWith t joins start stock next end (more + 1)
+    copy_passed copy later rest long from none = later rest long (from_behind rest from (λ o l e. none o l (subst (HasRowOfEarlier t) e copy))) none
 
-    pub behind_next : ConnectWith joins start stock next end (more + 1) → ConnectWith joins start stock (next + 1) end (more + 1)
-    behind_next a rest long from = a rest long (λ o l. (let f = from o l in (omega (arith, f.0), f.1)))
+    pub with_next : next < end → ¬ HasRowOfEarlier t next → ConnectWith t joins start stock next end (more + 1) → ConnectWith t joins start (stock ++ next ∷ []) next end more
+    with_next below first a rest long from none =
+        connect_same joins start (stock ++ next ∷ rest) ((stock ++ next ∷ []) ++ rest) (same_sym ((stock ++ next ∷ []) ++ rest) (stock ++ next ∷ rest) (move rest))
+        (a (next ∷ rest) (omega (arith, long)) (λ o l. elim (same_or next o) [ inl e ↦ (omega (arith, e), omega (arith, e, below)) | inr n ↦ from o (behind o n l) ])
+        (λ o l. elim (same_or next o) [ inl e ↦ subst (λ (x : ℕ). ¬ HasRowOfEarlier t x) e first | inr n ↦ none o (behind o n l) ]))
+      where
+        behind : (o : ℕ) → next ≢ o → 1 ≤ times o (next ∷ rest) → 1 ≤ times o rest
+        behind o n l = let c = times_cons o next rest in let z = one_else o next n in omega (arith, c, z, l)
+
+    pub behind_next : ConnectWith t joins start stock next end (more + 1) → ConnectWith t joins start stock (next + 1) end (more + 1)
+    behind_next a rest long from none = a rest long (λ o l. (let f = from o l in (omega (arith, f.0), f.1))) none
 
 -- ---- needs, where more is known of the stock
 
@@ -177,38 +188,43 @@ room_with counts next more l some room =
 
 -- ---- the verdicts on the stocks, step by step
 
-module _ (joins : List Join) (start : ℕ) (stock : List ℕ) (next end : ℕ) where
+module _ (t : TypeTable) (joins : List Join) (start : ℕ) (stock : List ℕ) (next end : ℕ) where
   pub none_more : (needs : List Need) (counts : List ℕ) (more : ℕ) (answer : Bool) → AreNeedsOf joins start next stock needs → HasCounts counts stock → All (λ count. count + more ≤ 17) counts
-      → IsTrue answer ↔ NeedsConnect needs counts → more ≡ 0 → IsTrue answer ↔ ConnectWith joins start stock next end more
+      → IsTrue answer ↔ NeedsConnect needs counts → more ≡ 0 → IsTrue answer ↔ ConnectWith t joins start stock next end more
   none_more needs counts more answer are has room y e =
       let by = connect_by_needs joins start next needs counts stock are has (small_counts counts stock more has room) in
-      let none = connect_none joins start stock next end in
-      subst (λ (m : ℕ). IsTrue answer ↔ ConnectWith joins start stock next end m) (sym e) ((λ h. none.0 (by.0 (y.0 h))), (λ h. y.1 (by.1 (none.1 h))))
+      let none = connect_none t joins start stock next end in
+      subst (λ (m : ℕ). IsTrue answer ↔ ConnectWith t joins start stock next end m) (sym e) ((λ h. none.0 (by.0 (y.0 h))), (λ h. y.1 (by.1 (none.1 h))))
 
-  module _ (more : ℕ) (some : 1 ≤ more) (below : next < end) where
+  -- with the next operation they connect, or it is a copy
+  abbrev pub AreSettled : ℕ → Type 0
+  AreSettled more = ConnectWith t joins start (stock ++ next ∷ []) next end (more - 1) ⊎ HasRowOfEarlier t next
+
+  module _ (more : ℕ) (some : 1 ≤ more) where
     as_more : more ≡ (more - 1) + 1
     as_more = omega (arith, some)
 
-    pub with_fails : (answer : Bool) → IsTrue answer ↔ ConnectWith joins start (stock ++ next ∷ []) next end (more - 1) → answer ≡ false → IsTrue false ↔ ConnectWith joins start stock next end more
-    with_fails answer y fails = (
+    pub with_fails : next < end → ¬ HasRowOfEarlier t next → (answer : Bool) → IsTrue answer ↔ ConnectWith t joins start (stock ++ next ∷ []) next end (more - 1) → answer ≡ false → IsTrue false ↔ ConnectWith t joins start stock next end more
+    with_fails below first answer y fails = (
       λ h. absurd (true≢false (sym h)),
-      λ h. absurd (true≢false (sym (y.1 (with_next joins start stock next end (more - 1) below (subst (ConnectWith joins start stock next end) as_more h))) ∙ fails)),
+      λ h. absurd (true≢false (sym (y.1 (with_next t joins start stock next end (more - 1) below first (subst (ConnectWith t joins start stock next end) as_more h))) ∙ fails)),
     )
 
-    pub all_hold : (answer other : Bool) → IsTrue answer ↔ ConnectWith joins start (stock ++ next ∷ []) next end (more - 1) → answer ≡ true → IsTrue other ↔ ConnectWith joins start stock (next + 1) end more
-        → IsTrue other ↔ ConnectWith joins start stock next end more
-    all_hold answer other y sure o = (
-      λ h. subst (ConnectWith joins start stock next end) (sym as_more)
-          (connect_more joins start stock next end (more - 1) below (y.0 sure) (subst (ConnectWith joins start stock (next + 1) end) as_more (o.0 h))),
-      λ h. o.1 (subst (ConnectWith joins start stock (next + 1) end) (sym as_more) (behind_next joins start stock next end (more - 1) below (subst (ConnectWith joins start stock next end) as_more h))),
+    pub all_hold : AreSettled more → (other : Bool) → IsTrue other ↔ ConnectWith t joins start stock (next + 1) end more → IsTrue other ↔ ConnectWith t joins start stock next end more
+    all_hold settled other o = (
+      λ h. (let later = subst (ConnectWith t joins start stock (next + 1) end) as_more (o.0 h) in subst (ConnectWith t joins start stock next end) (sym as_more) (elim settled [
+        | inl with_it ↦ connect_more t joins start stock next end (more - 1) with_it later
+        | inr copy ↦ copy_passed t joins start stock next end (more - 1) copy later
+      ])),
+      λ h. o.1 (subst (ConnectWith t joins start stock (next + 1) end) (sym as_more) (behind_next t joins start stock next end (more - 1) (subst (ConnectWith t joins start stock next end) as_more h))),
     )
 
-    pub last_holds : (answer : Bool) → IsTrue answer ↔ ConnectWith joins start (stock ++ next ∷ []) next end (more - 1) → answer ≡ true → next + 1 ≡ end → IsTrue true ↔ ConnectWith joins start stock next end more
-    last_holds answer y sure e = all_hold answer true y sure ((λ h. subst (λ (n : ℕ). ConnectWith joins start stock n end more) (sym e) (connect_end joins start stock end more some)), (λ h. refl))
+    pub last_holds : AreSettled more → next + 1 ≡ end → IsTrue true ↔ ConnectWith t joins start stock next end more
+    last_holds settled e = all_hold settled true ((λ h. subst (λ (n : ℕ). ConnectWith t joins start stock n end more) (sym e) (connect_end t joins start stock end more some)), (λ h. refl))
 
 -- the whole stocks
-pub from_none : (joins : List Join) (start end n : ℕ) (answer : Bool) → IsTrue answer ↔ ConnectWith joins start [] 0 end n → IsTrue answer ↔ ConnectFrom end n joins start
-from_none joins start end n answer y = (
-  λ h stock known long. y.0 h stock long ((known_from end stock).0 known),
-  λ h. y.1 (λ rest long from. h rest ((known_from end rest).1 from) long),
+pub from_none : (t : TypeTable) (joins : List Join) (start n : ℕ) (answer : Bool) → IsTrue answer ↔ ConnectWith t joins start [] 0 (length t.operations) n → IsTrue answer ↔ ConnectFrom t n joins start
+from_none t joins start n answer y = (
+  λ h stock known long none. y.0 h stock long ((known_from (length t.operations) stock).0 known) none,
+  λ h. y.1 (λ rest long from none. h rest ((known_from (length t.operations) rest).1 from) long none),
 )

@@ -61,10 +61,10 @@ abbrev pub NoticesItselfSomewhere : TypeTable → ℕ → Type 0
 NoticesItselfSomewhere t o = (o < length t.operations)
     × ((start : ℕ) × (start < length t.states) × NoticesItself t start o)
 
--- the joins do not connect each stock of n operations from the state
+-- the joins do not connect each stock of n operations without copies from the state
 abbrev pub IsLeftOpen : TypeTable → ℕ → List Join → ℕ → Type 0
 IsLeftOpen t n joins start =
-    (start < length t.states) × ¬ ConnectFrom (length t.operations) n joins start
+    (start < length t.states) × ¬ ConnectFrom t n joins start
 
 -- the certificate has the fault, as one of the type
 abbrev pub HasFault : TypeTable → StockCertificate → StockCheckFault → Type 0

@@ -1,7 +1,9 @@
 -- How often a stock has to have each operation, for the words of a join to be within it.
 use Rattle.std.specs.Prelude.{◌≡◌, ℕ, ◌<◌, ◌≤◌, ◌↔◌, List, length, slice_index, Bool, Contains, All, ◌++◌}
+use Rattle.cn_table.specs.TypeTable.{TypeTable}
 use Rattle.cn_table.specs.declared.limits.TheConstants.{MOST_OPERATIONS}
 use Rattle.cn_stocks.specs.Words.{IsKnown, times}
+use Rattle.cn_joins.specs.Evidence.{HasNoCopies}
 use Rattle.cn_joins.specs.Joins.{Connect, Join, beginning}
 use Rattle.cn_stock_check.specs.declared.needs.Need.{Need}
 
@@ -71,13 +73,14 @@ abbrev pub AreFrom : ℕ → ℕ → List ℕ → Type 0
 AreFrom first end list = (o : ℕ) → 1 ≤ times o list → (first ≤ o) × (o < end)
 
 -- the joins connect the stock with each list of so many operations from the first number on and below
--- the end
-abbrev pub ConnectWith : List Join → ℕ → List ℕ → ℕ → ℕ → ℕ → Type 0
-ConnectWith joins start stock first end more =
-    (rest : List ℕ) → length rest ≡ more → AreFrom first end rest
+-- the end that has no copies
+abbrev pub ConnectWith : TypeTable → List Join → ℕ → List ℕ → ℕ → ℕ → ℕ → Type 0
+ConnectWith t joins start stock first end more =
+    (rest : List ℕ) → length rest ≡ more → AreFrom first end rest → HasNoCopies t rest
     → Connect joins start (stock ++ rest)
 
--- from the state the joins connect each stock of n of so many operations
-abbrev pub ConnectFrom : ℕ → ℕ → List Join → ℕ → Type 0
-ConnectFrom operations n joins start =
-    (stock : List ℕ) → IsKnown operations stock → length stock ≡ n → Connect joins start stock
+-- from the state the joins connect each stock of n operations that has no copies
+abbrev pub ConnectFrom : TypeTable → ℕ → List Join → ℕ → Type 0
+ConnectFrom t n joins start =
+    (stock : List ℕ) → IsKnown (length t.operations) stock → length stock ≡ n
+    → HasNoCopies t stock → Connect joins start stock

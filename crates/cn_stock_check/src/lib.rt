@@ -15,6 +15,7 @@
 //! ```
 #![tactic(auto)]
 
+mod copies;
 mod evidence;
 mod fault;
 mod joins;

@@ -34,6 +34,26 @@ next = [\"one\", \"one\"]
 "
 }
 
+/// The bit that is written and not read, with a copy of the first write.
+fn copied_register() -> &'static str {
+    "name = \"copied_register\"
+states = [\"zero\", \"one\"]
+responses = [\"ok\"]
+[[operation]]
+name = \"write0\"
+response = [\"ok\", \"ok\"]
+next = [\"zero\", \"zero\"]
+[[operation]]
+name = \"put0\"
+response = [\"ok\", \"ok\"]
+next = [\"zero\", \"zero\"]
+[[operation]]
+name = \"write1\"
+response = [\"ok\", \"ok\"]
+next = [\"one\", \"one\"]
+"
+}
+
 /// A bit that keeps what is first written: every number of processes.
 fn sticky_bit() -> &'static str {
     "name = \"sticky_bit\"
@@ -137,6 +157,19 @@ fn wrong_joins_are_refused(rt: HostRuntime) -> Result<(), Fail> {
     let noticed = ["1", "1", "null", "[]"];
     let of_tas = verdict(alloc, test_and_set(), noticed, "test_and_set")?;
     assert!(rt; of_tas == Err(StockCheckFault::NoticesItself(0)));
+    Ok(())
+}
+
+#[test]
+fn copies_need_no_joins(rt: HostRuntime) -> Result<(), Fail> {
+    let alloc = rt.alloc();
+    let register = copied_register();
+    let of_firsts = "[[0,[0],0,[2,0],1],[1,[0,2],1,[2],0]]";
+    let of_one = ["1", "1", "null", of_firsts];
+    assert!(rt; verdict(alloc, register, of_one, "copied_register")? == Ok(()));
+    let from_zero = ["1", "1", "null", "[[0,[0],0,[2,0],1]]"];
+    let open = verdict(alloc, register, from_zero, "copied_register")?;
+    assert!(rt; open == Err(StockCheckFault::NotConnected(1)));
     Ok(())
 }
 

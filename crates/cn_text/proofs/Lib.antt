@@ -1,5 +1,6 @@
 mod Behind
 mod FoldLemmas
+mod FoldedPieces
 mod Numbered
 mod RowWidths
 mod Widths

@@ -57,6 +57,20 @@ folded_line line = laid_rest WIDEST_LINE 0 line ++ codes "\n"
 unfoldable pub folded : List ℕ → List ℕ
 folded text = flat_map folded_line (lines text)
 
+-- ---- a text, folded in pieces
+
+-- the last byte of the text ends a line
+abbrev pub ends_in_line : List ℕ → Bool
+ends_in_line text =
+    nat_lt 0 (length text) && slice_index text (length text - 1) == code_of (codes "\n")
+
+-- behind a text and lines that are not folded yet stands this piece: some of the lines are folded
+-- behind the text now, and the others are left
+abbrev pub FoldsBehind : List ℕ → List ℕ → List ℕ → List ℕ → List ℕ → Type 0
+FoldsBehind text lines piece new_text new_lines =
+    (rest : List ℕ)
+    → new_text ++ folded (new_lines ++ rest) ≡ text ++ folded (lines ++ (piece ++ rest))
+
 -- ---- the rest of a line, cut
 
 -- the rest, as if it were one word

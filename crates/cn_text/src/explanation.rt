@@ -4,7 +4,7 @@ ghost use Rattle.cn_reasons.specs.Explanation.{IsExplanation};
 ghost use Rattle.cn_reasons.specs.Known.{IsKnownLasting, IsKnownPair, IsKnownRefutation, IsKnownWay, IsKnownWitness};
 ghost use Rattle.cn_sentences.specs.Numbers.{number_words};
 ghost use Rattle.cn_text.specs.Explanation.{example_part, exception, exceptions, explanation_text, in_full, lasting_part, lasting_text, no_more, not_refuted, pairs_line, reasons_text, refutation_text, rest_interferes, rule_sentence, rule_words, shortest_part, tells_pairs, tells_refutation, ways_part, why, witness_text, with_ways};
-ghost use Rattle.cn_text.specs.Folded.{folded};
+ghost use Rattle.cn_text.specs.Folded.{folded, FoldsBehind};
 ghost use Rattle.cn_text.specs.Reasons.{start_text};
 ghost use Rattle.cn_text.specs.declared.reasons.NumberKind.TheVariants.{Readable};
 
@@ -186,42 +186,43 @@ fn with_ways(number: TypeNumber, rule: Option<Rule>, all: bool) -> bool
 /// The ways, and what is left out.
 #[tactic(auto, unfolding(crate::specs::Explanation::ways_part))]
 fn push_ways_part(
+    alloc: Global,
     text: &mut String,
+    lines: &mut String,
     explanation: &Explanation,
     refutation: &Refutation<Way>,
 ) -> Result<(), AllocError>
     requires { IsKnownRefutation (IsKnownWay explanation.now.table) refutation.now }
-    ensures { OnOk result (string_bytes text.new
-        ≡ string_bytes text.old ++ ways_part explanation.now refutation.now) }
+    ensures { OnOk result (FoldsBehind (string_bytes text.old) (string_bytes lines.old)
+        (ways_part explanation.now refutation.now) (string_bytes text.new) (string_bytes lines.new)) }
 {
-    text.push_str(in_full(explanation.rule))?;
-    push_ways_words(text, "a process cannot tell", refutation.count)?;
-    push_ways(text, &explanation.table, refutation.ways.as_slice())?;
-    push_ways_end(
-        text,
-        refutation.more,
-        explanation.version,
-        refutation.processes,
-    )
+    let (table, version) = (&explanation.table, explanation.version);
+    lines.push_str(in_full(explanation.rule))?;
+    push_ways_words(lines, "a process cannot tell", refutation.count)?;
+    push_ways(alloc, text, lines, table, refutation.ways.as_slice())?;
+    push_ways_end(lines, refutation.more, version, refutation.processes)
 }
 
 /// Why the number is not one more: the rule, and the ways.
 #[tactic(auto, unfolding(crate::specs::Explanation::refutation_text))]
 fn push_refutation(
+    alloc: Global,
     text: &mut String,
+    lines: &mut String,
     explanation: &Explanation,
     refutation: &Refutation<Way>,
 ) -> Result<(), AllocError>
     requires { IsKnownRefutation (IsKnownWay explanation.now.table) refutation.now }
-    ensures { OnOk result (string_bytes text.new
-        ≡ string_bytes text.old ++ refutation_text explanation.now refutation.now) }
+    ensures { OnOk result (FoldsBehind (string_bytes text.old) (string_bytes lines.old)
+        (refutation_text explanation.now refutation.now)
+        (string_bytes text.new) (string_bytes lines.new)) }
 {
-    write!(text, "Why not {}: ", refutation.processes)?;
-    push_rule(text, explanation.rule)?;
+    write!(lines, "Why not {}: ", refutation.processes)?;
+    push_rule(lines, explanation.rule)?;
     if !with_ways(explanation.number, explanation.rule, explanation.all) {
         return Ok(());
     }
-    push_ways_part(text, explanation, refutation)
+    push_ways_part(alloc, text, lines, explanation, refutation)
 }
 
 /// Why the number is no more, with no refutation.
@@ -254,17 +255,23 @@ fn tells_refutation(number: TypeNumber) -> bool
 }
 
 /// Why the number is no more.
-fn push_no_more(text: &mut String, explanation: &Explanation) -> Result<(), AllocError>
+fn push_no_more(
+    alloc: Global,
+    text: &mut String,
+    lines: &mut String,
+    explanation: &Explanation,
+) -> Result<(), AllocError>
     requires { IsExplanation explanation.now }
-    ensures { OnOk result (string_bytes text.new
-        ≡ string_bytes text.old ++ no_more explanation.now explanation.now.refutation) }
+    ensures { OnOk result (FoldsBehind (string_bytes text.old) (string_bytes lines.old)
+        (no_more explanation.now explanation.now.refutation)
+        (string_bytes text.new) (string_bytes lines.new)) }
 {
     match &explanation.refutation {
         Some(refutation) if tells_refutation(explanation.number) => {
-            push_refutation(text, explanation, refutation)
+            push_refutation(alloc, text, lines, explanation, refutation)
         }
         _ => push_not_refuted(
-            text,
+            lines,
             &explanation.table,
             explanation.limit,
             explanation.number,
@@ -387,7 +394,7 @@ fn push_end(alloc: Global, text: &mut String, explanation: &Explanation) -> Resu
 {
     let mut lines = String::new(alloc);
     let (table, witness) = (&explanation.table, &explanation.witness);
-    push_no_more(&mut lines, explanation)?;
+    push_no_more(alloc, text, &mut lines, explanation)?;
     push_pairs_line(&mut lines, table, witness, explanation.apart.as_slice())?;
     push_folded(alloc, text, lines.as_str())
 }

@@ -1,7 +1,7 @@
 //! Lines that are folded: a line that is too wide goes on in the next line.
-ghost use Rattle.std.specs.Prelude.{◌≡◌, ◌++◌, flat_map, map, string_bytes, IfOk, MatchOption, OnOk};
+ghost use Rattle.std.specs.Prelude.{◌≡◌, ◌++◌, [], flat_map, map, string_bytes, IfOk, MatchOption, OnOk};
 ghost use Rattle.std.specs.Str.Lines.{lines};
-ghost use Rattle.cn_text.specs.Folded.{ends_in_word, fits, fits_whole, folded, folded_line, kept_together, laid_as_word, laid_rest, margin, IsFront};
+ghost use Rattle.cn_text.specs.Folded.{ends_in_line, ends_in_word, fits, fits_whole, folded, folded_line, kept_together, laid_as_word, laid_rest, margin, FoldsBehind, IsFront};
 
 use crate::limits::{MARGIN, WIDEST_LINE};
 use cn_pieces::push_spaces;
@@ -140,4 +140,27 @@ pub(crate) fn push_folded(alloc: Global, text: &mut String, wide: &str) -> Resul
 {
     let lines = lines_of(alloc, wide)?;
     push_lines(text, &lines)
+}
+
+fn ends_in_line(text: &str) -> bool
+    ensures { result ≡ ends_in_line text.now }
+{
+    let bytes = text.as_bytes();
+    !bytes.is_empty() && bytes[bytes.len() - 1] == b'\n'
+}
+
+/// Folds the lines behind the text if all of them are whole. So a long text is never kept twice.
+pub(crate) fn fold_whole(
+    alloc: Global,
+    text: &mut String,
+    lines: &mut String,
+) -> Result<(), AllocError>
+    ensures { OnOk result (FoldsBehind (string_bytes text.old) (string_bytes lines.old) []
+        (string_bytes text.new) (string_bytes lines.new)) }
+{
+    if ends_in_line(lines.as_str()) {
+        push_folded(alloc, text, lines.as_str())?;
+        lines.clear();
+    }
+    Ok(())
 }

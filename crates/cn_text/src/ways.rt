@@ -2,14 +2,16 @@
 ghost use Rattle.std.specs.Prelude.{◌≡◌, ◌<◌, ◌++◌, flat_map, length, string_bytes, All, OnOk};
 ghost use Rattle.cn_choice.specs.declared.limits.TheConstants.{MOST_PROCESSES};
 ghost use Rattle.cn_reasons.specs.Known.{IsKnownChoice, IsKnownRecoverableWay, IsKnownStep, IsKnownWay};
+ghost use Rattle.cn_text.specs.Folded.{FoldsBehind};
 ghost use Rattle.cn_text.specs.Ways.{both_runs, cannot_tell, choice_text, numbered, recoverable_way_text, run_name, run_text, seen_run, step_text, way_start, way_text};
 
+use crate::folded::fold_whole;
 use cn_choice::Team;
 use cn_pieces::{push_number, push_pieces};
 use cn_reasons::{ChoiceGroups, RecoverableWay, Step, Way};
 use cn_sentences::{process_name, push_members};
 use cn_table::{State, Table};
-use std::alloc::AllocError;
+use std::alloc::{AllocError, Global};
 
 /// A choice: its start state, and the operations of each team.
 #[tactic(auto, unfolding(crate::specs::Ways::choice_text))]
@@ -193,14 +195,21 @@ fn push_way(text: &mut String, table: &Table, number: usize, way: &Way) -> Resul
     push_seen_run(text, table, way, Team::B, way.runs.b_first.as_slice())
 }
 
-/// The ways, numbered from 1.
-pub(crate) fn push_ways(text: &mut String, table: &Table, ways: &[Way]) -> Result<(), AllocError>
+/// The ways, numbered from 1, behind lines that are not folded yet. Each is folded as it is told.
+pub(crate) fn push_ways(
+    alloc: Global,
+    text: &mut String,
+    lines: &mut String,
+    table: &Table,
+    ways: &[Way],
+) -> Result<(), AllocError>
     requires { All (IsKnownWay table.now) ways.now }
-    ensures { OnOk result (string_bytes text.new
-        ≡ string_bytes text.old ++ numbered (way_text table.now) 0 ways.now) }
+    ensures { OnOk result (FoldsBehind (string_bytes text.old) (string_bytes lines.old)
+        (numbered (way_text table.now) 0 ways.now) (string_bytes text.new) (string_bytes lines.new)) }
 {
     for (place, way) in ways.iter().enumerate() {
-        push_way(text, table, place + 1, way)?;
+        push_way(lines, table, place + 1, way)?;
+        fold_whole(alloc, text, lines)?;
     }
     Ok(())
 }

@@ -1,10 +1,10 @@
 -- What `pairs` writes: a function of the table that it reads, of the numbers and of the form.
-use Rattle.std.specs.Prelude.{◌≡◌, ◌≢◌, ◌≤◌, ◌++◌, ℕ, List, [], codes, length, Result, Ok, Err}
+use Rattle.std.specs.Prelude.{◌≡◌, ◌++◌, ℕ, List, codes, Result, Ok, Err}
 use Rattle.std.specs.Prelude.{string_bytes}
 use Rattle.cn_table.specs.TypeTable.{TypeTable}
 use Rattle.cn_search.specs.Numbers.{HasNumber}
 use Rattle.cn_pairs.specs.SetNumbers.{AreSetNumbers, set_lists}
-use Rattle.cn_pairs.specs.Smallest.{AreSmallest, NoneHas}
+use Rattle.cn_pairs.specs.Smallest.{AreSmallest}
 use Rattle.cn_pairs.specs.declared.pairs.Pairs.{Pairs}
 use Rattle.serde_json.specs.Written.{compact_text}
 use Rattle.cn_markdown.specs.Pairs.{pairs_markdown}
@@ -21,14 +21,12 @@ use Rattle.cn_io.specs.declared.fault.AppFault.{AppFault}
 use Rattle.cn_io.specs.declared.fault.AppFault.TheVariants.{OutOfMemory}
 
 -- the numbers are those of the type, of each of its operations alone and of each pair of them, and
--- the sets are the smallest with the number of the type; there are none only if no set has it
+-- the sets are the smallest with the number of the type, one at least
 pub record ArePairs (t : TypeTable) (p : Pairs) : Type 0 where
   pub number : HasNumber t p.number
   pub alone : AreSetNumbers t 1 p.alone.items
   pub pairs : AreSetNumbers t 2 p.pairs.items
-  pub smallest : p.smallest.items ≢ [] → AreSmallest t p.number (set_lists p.smallest)
-  pub none : p.smallest.items ≡ [] → (size : ℕ) → 1 ≤ size → size ≤ length t.operations
-      → NoneHas t size p.number
+  pub smallest : AreSmallest t p.number (set_lists p.smallest)
 
 -- the text of the numbers in a form
 abbrev pub pairs_in : DocumentForm → TypeTable → Pairs → List ℕ

@@ -35,18 +35,17 @@ pub(crate) fn explanation_for(
 /// The text of an explanation in a form, and of how short protocols get, if that is given.
 pub(crate) fn text_of(
     alloc: Global,
-    explanation: &Explanation,
+    explanation: Explanation,
     shortest: Option<ShortestCost>,
     form: DocumentForm,
 ) -> Result<String, AllocError>
-    requires { IsExplanation explanation.now }
-    ensures { IfOk result (λ text. string_bytes text
-        ≡ explanation_in form explanation.now shortest) }
+    requires { IsExplanation explanation }
+    ensures { IfOk result (λ text. string_bytes text ≡ explanation_in form explanation shortest) }
 {
     match form {
-        DocumentForm::Text => explanation_of(alloc, explanation, shortest),
+        DocumentForm::Text => explanation_of(alloc, &explanation, shortest),
         DocumentForm::Json => with_line_feed(explanation_json(alloc, explanation, shortest)?),
-        DocumentForm::Markdown => explanation_markdown(alloc, explanation, shortest),
+        DocumentForm::Markdown => explanation_markdown(alloc, &explanation, shortest),
     }
 }
 
@@ -68,5 +67,5 @@ pub fn explain_report(
 {
     accepted_is_right();
     let explanation = explanation_for(alloc, checked, all)?;
-    Ok(Report::whole(text_of(alloc, &explanation, None, form)?))
+    Ok(Report::whole(text_of(alloc, explanation, None, form)?))
 }

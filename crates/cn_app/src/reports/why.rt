@@ -70,7 +70,7 @@ fn reasons_report<T: Threads + Sync>(
 {
     let shortest = shortest_cost(alloc, &table)?;
     let explanation = reasons_for(rt, alloc, table, all)?;
-    Ok(Report::whole(text_of(alloc, &explanation, shortest, form)?))
+    Ok(Report::whole(text_of(alloc, explanation, shortest, form)?))
 }
 
 /// Why the consensus number of the table is what it is, in a form.

@@ -1,12 +1,12 @@
 //! A writer, with the bytes that a command hands to it.
-ghost use Rattle.std.specs.Prelude.{◌≡◌};
+ghost use Rattle.std.specs.Prelude.{◌≡◌, [], Err, MatchResult, Ok};
 ghost use Rattle.cn_io.specs.Streams.Writing.{HandsOver, IsUnwritten, IsWritable, Reports};
 
 use crate::fault::AppFault;
 use crate::report::{Outcome, Report};
 use crate::streams::progress::Progress;
 use std::alloc::Global;
-use std::io::Write;
+use std::io::{self, Write};
 
 /// A writer, the bytes that were handed to it, and whether it took them.
 #[derive(Drop)]
@@ -65,10 +65,34 @@ impl<W: Write> Output<W> {
         let text = report.text.as_bytes();
         self.bytes.reserve(text.len())?;
         self.bytes.extend_from_slice(text)?;
-        match self.writer.write_all(text) {
+        let written = self.writer.write_all(text);
+        self.end(written, report.outcome)
+    }
+
+    // The same with the first report, whose text is kept with no copy of it.
+    fn take(&mut self, report: Report) -> Result<Outcome, AppFault>
+        requires writable { IsWritable self.old }
+        requires first { self.old.bytes.items ≡ [] }
+        ensures { HandsOver W.contents report self.old self.new result }
+    {
+        self.bytes = report.text.into_bytes();
+        let written = self.writer.write_all(&self.bytes);
+        self.end(written, report.outcome)
+    }
+
+    // Notes whether the writer took its bytes.
+    fn end(&mut self, written: Result<(), io::Error>, outcome: Outcome) -> Result<Outcome, AppFault>
+        ensures writer { self.new.writer ≡ self.old.writer }
+        ensures bytes { self.new.bytes.items ≡ self.old.bytes.items }
+        ensures result { MatchResult written (λ _. result ≡ Ok outcome)
+            (λ _. result ≡ Err AppFault.Write) }
+        ensures progress { MatchResult written (λ _. self.new.progress ≡ Progress.Done)
+            (λ _. self.new.progress ≡ Progress.Failed) }
+    {
+        match written {
             Ok(()) => {
                 self.progress = Progress::Done;
-                Ok(report.outcome)
+                Ok(outcome)
             }
             Err(_) => {
                 self.progress = Progress::Failed;
@@ -84,6 +108,7 @@ impl<W: Write> Output<W> {
         ensures { Reports W.contents (λ r. r ≡ work) self.old self.new result }
     {
         match work {
+            Ok(report) if self.bytes.is_empty() => self.take(report),
             Ok(report) => self.write(&report),
             Err(fault) => Err(fault),
         }

@@ -10,7 +10,7 @@ use Rattle.cn_check.proofs.entry.show.Goals as goal
 pub front_of-text-requires : goal.front_of-text-requires
 front_of-text-requires c =
     let x : Collision = record {
-      choice = record { state = c.args.state.0; a = c.list_of.result.items; b = c.list_of-2.result.items };
+      choice = record { state = c.args.state.0; a = c.args.a.now; b = c.args.b.now };
       process = c.in_ok-process.process;
       alpha = c.in_ok-alpha.alpha.items;
       beta = c.in_ok-beta.beta.items;
@@ -23,7 +23,7 @@ pub returns-clause-text : goal.returns-clause-text
 returns-clause-text c =
     let rest : List ℕ = c.in_ok-rest.rest.now in
     let x : Collision = record {
-      choice = record { state = c.args.state.0; a = c.list_of.result.items; b = c.list_of-2.result.items };
+      choice = record { state = c.args.state.0; a = c.args.a.now; b = c.args.b.now };
       process = c.in_ok-process.process;
       alpha = c.in_ok-alpha.alpha.items;
       beta = c.in_ok-beta.beta.items;
@@ -37,7 +37,7 @@ pub returns-clause-shown : goal.returns-clause-shown
 returns-clause-shown c =
     let rest : List ℕ = c.in_ok-rest.rest.now in
     let x : Collision = record {
-      choice = record { state = c.args.state.0; a = c.list_of.result.items; b = c.list_of-2.result.items };
+      choice = record { state = c.args.state.0; a = c.args.a.now; b = c.args.b.now };
       process = c.in_ok-process.process;
       alpha = c.in_ok-alpha.alpha.items;
       beta = c.in_ok-beta.beta.items;
@@ -45,18 +45,16 @@ returns-clause-shown c =
     let spelled : c.args.bytes.now ≡ evidence_text x ++ rest =
     evidence_spelled x c.args.bytes.now _ _ _ _ _ rest c.in_ok-process.ensures.text c.in_ok-second.ensures c.in_ok-alpha.ensures.text c.in_ok-third.ensures
     c.in_ok-beta.ensures.text c.in_ok-rest.ensures in
-    let alpha = rw c.as_slice.ensures.value at c.greatest_of-alpha_greatest.ensures in
-    let beta = rw c.as_slice-2.ensures.value at c.greatest_of-beta_greatest.ensures in
     let up_to : (low : ℕ) (list : List ℕ) → low ≤ c.greater-greatest.result → All (λ p. p ≤ low) list → All (λ p. p ≤ c.greater-greatest.result) list =
     λ low list l all. All-weaker (λ p. p ≤ low) (λ p. p ≤ c.greater-greatest.result) (λ p h. omega (arith, h, l)) list all in
     record {
       entry = x;
-      of_choice = rw (c.list_of.ensures, c.list_of-2.ensures) refl;
-      collides = c.holds_collision.ensures.0 c.if-not-holds_collision.false;
+      of_choice = refl;
+      collides = rw (c.as_slice-alpha_order.ensures.value, c.as_slice-beta_order.ensures.value) at (c.collide.ensures.0 c.if-not-collide.false);
       process_small = le-leb x.process (MOST_PROCESSES - 1) (omega (arith, c.in_ok-process.ensures.small));
       alpha_short = c.in_ok-alpha.ensures.short;
       beta_short = c.in_ok-beta.ensures.short;
       spelled = c.front_of-text.ensures (evidence_text x) spelled;
-      alpha_up_to = up_to _ x.alpha c.greater-greatest.ensures.0 alpha;
-      beta_up_to = up_to _ x.beta c.greater-greatest.ensures.1 beta;
+      alpha_up_to = up_to _ x.alpha c.greater-greatest.ensures.0 c.in_ok-alpha.ensures.greatest;
+      beta_up_to = up_to _ x.beta c.greater-greatest.ensures.1 c.in_ok-beta.ensures.greatest;
     }

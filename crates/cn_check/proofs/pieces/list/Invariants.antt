@@ -1,4 +1,4 @@
-use Rattle.std.proofs.Common.{◌≡◌, ◌-◌, ◌++◌, ◌∷◌, List, ℕ, map, decimal, true, nat_le}
+use Rattle.std.proofs.Common.{◌≡◌, ◌≤◌, ◌-◌, ◌++◌, ◌∷◌, All, List, ℕ, map, decimal, true, nat_le}
 use Rattle.std.specs.List.{list_all}
 use Rattle.arrayvec.specs.ArrayVec.{array_vec_len}
 use Rattle.serde_json.specs.View.{items_of}
@@ -12,5 +12,6 @@ abbrev pub invariant-loop : goal.invariant-loop
 invariant-loop l = record {
   len : array_vec_len l.out ≡ l.counter;
   small : list_all (λ n. nat_le n (MOST_PROCESSES - 1)) l.out.items ≡ true;
+  greatest : All (λ p. p ≤ l.greatest) l.out.items;
   text : (n : ℕ) (ns rest : List ℕ) → l.left ≡ decimal n ++ (items_text true (items_of (map number_data ns)) ++ rest) → l.bytes ≡ compact_text (numbers_data (l.out.items ++ n ∷ ns)) ++ rest;
 }

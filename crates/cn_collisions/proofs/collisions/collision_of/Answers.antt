@@ -1,7 +1,14 @@
-use Rattle.std.proofs.Common.{ℕ}
+use Rattle.std.proofs.Common.{ℕ, refl}
 use Rattle.cn_choice.specs.declared.team.Team.TheVariants.{B}
 use Rattle.cn_collisions.proofs.FirstCollisions.{first_collision, first_of_pair, none_collides}
 use Rattle.cn_collisions.proofs.collisions.collision_of.Goals as goal
+
+-- some order that begins in B gives the process the pair of the first one
+pub unreachable-requires : goal.unreachable-requires
+unreachable-requires c =
+    let pair : ℕ × ℕ = (c.in-Some.response, c.in-Some.state) in
+    let beta = (c.outcomes-pairs.ensures c.in-Some.response c.in-Some.state).0 c.in-Some.ensures.first.has in
+    c.in_default-first_order_into.ensures.none beta.0 beta.1 (pair, (beta.2, beta.3), (c.only-pair.ensures c.in-Some.response c.in-Some.state).1 (refl, refl))
 
 pub returns-in_default-clause-none : goal.returns-in_default-clause-none
 returns-in_default-clause-none c false =

@@ -1,24 +1,50 @@
-use Rattle.std.proofs.Common.{arith, get_or}
-use Rattle.std.proofs.lemmas.List.{get_or_default}
+use Rattle.std.proofs.Common.{◌<◌, ◌≤◌, arith, inl, length, refl}
+use Rattle.cn_outcomes.proofs.LastProcess.{zero_has_none}
 use Rattle.cn_stocks.specs.Pairs.{Has}
-use Rattle.cn_choice.specs.TeamOrders.{team_from, team_to}
-use Rattle.cn_collisions.specs.declared.ways.Step.{Step}
-use Rattle.cn_collisions.proofs.FirstOrders.{outcome_way, team_in, way_outcome}
+use Rattle.cn_choice.specs.TeamOrders.{team_from}
+use Rattle.cn_collisions.proofs.FirstOrders.{outcome_way, team_in, team_rises, way_outcome}
 use Rattle.cn_collisions.proofs.Gathering.{below_more}
-use Rattle.cn_collisions.proofs.OutcomeLemmas.{EndsFrom, EndsWith, ends_here, from_openings, to_openings}
+use Rattle.cn_collisions.proofs.OutcomeLemmas.{Begins, EndsWith, passed_begins, passed_below, step_begins}
+use Rattle.cn_collisions.proofs.WayLemmas.{tried_more, tried_next}
 use Rattle.cn_collisions.proofs.orders.outcomes.Goals as goal
 
-pub add_pairs_of_ways-requires-clause-prefix : goal.add_pairs_of_ways-requires-clause-prefix
-add_pairs_of_ways-requires-clause-prefix c = (c.requires.openings.each c.loop-step.step-index _ c.loop-step-test.true).2.prefix
+pub loop-process-init : goal.loop-process-init
+loop-process-init c = record {
+  pairs = λ r q. (λ h. absurd (c.none-pairs.ensures r q h), λ h. absurd (omega (arith, h.1, h.2.0, c.bounds-low.ensures.low)));
+  tried = λ o s. absurd (zero_has_none o s);
+}
 
-pub loop-step-preserved : goal.loop-step-preserved
-loop-step-preserved c r q =
-    let v = c.args.asked.now.view in
-    let steps = c.args.openings.now in
-    let i = c.loop-step.step-index in
-    let s : Step = get_or steps i _ in
-    below_more (EndsFrom v r q steps) i (Has c.loop-step.pairs r q) (EndsWith v r q s.prefix) (Has c.add_pairs_of_ways.new.pairs r q)
-    (c.loop-step.invariant r q) (c.add_pairs_of_ways.ensures r q) (ends_here v r q steps i s (λ d. get_or_default steps i d _ c.loop-step-test.true))
+pub loop-process-preserved-then-not-is_open : goal.loop-process-preserved-then-not-is_open
+loop-process-preserved-then-not-is_open c =
+    let a = c.args.asked.now in
+    let v = a.view in
+    let is = c.requires.asked in
+    let low = team_from a.choice.now c.args.team in
+    let p = c.loop-process.process in
+    let i = c.loop-process.invariant in
+    let inside : p < length v.raw.now.operations = omega (arith, c.loop-process-test.true, c.bounds-low.ensures.high, team_in a.choice.now v.raw.now is.same c.args.team) in
+    record {
+      pairs = λ r q. passed_below v low r q a.start is.start p (Has c.loop-process.pairs r q)
+          (passed_begins v low r q a.start is.start p c.loop-process.tried i.tried (c.if-not-is_open.ensures.closed refl) inside) (i.pairs r q);
+      tried = λ o s. tried_more v.raw.now v.process low p a.start.used o (i.tried o s);
+    }
+
+pub loop-process-preserved : goal.loop-process-preserved
+loop-process-preserved c =
+    let a = c.args.asked.now in
+    let v = a.view in
+    let is = c.requires.asked in
+    let low = team_from a.choice.now c.args.team in
+    let p = c.loop-process.process in
+    let i = c.loop-process.invariant in
+    let next = c.after-next.ensures in
+    let from : low ≤ p = omega (arith, c.loop-process.auto.process, c.bounds-low.ensures.low) in
+    record {
+      pairs = λ r q. below_more (Begins v low r q) p (Has c.loop-process.pairs r q) (EndsWith v low r q c.after-next.result) (Has c.add_pairs_of_ways.new.pairs r q) (i.pairs r q)
+          (c.add_pairs_of_ways.ensures r q) (step_begins v low r q a.start is.start p from c.after-next.result next.used next.state next.seen);
+      tried = tried_next v.raw.now v.process low p a.start.used c.loop-process.tried c.tried_after-tried.result from (λ u. c.if-not-is_open.ensures.open refl (inl u)) i.tried
+          (λ o s. (c.tried_after-tried.ensures o).0 s);
+    }
 
 pub returns : goal.returns
 returns c r q =
@@ -28,15 +54,10 @@ returns c r q =
     let raw = v.raw.now in
     let is = c.requires.asked in
     let team = c.args.team in
-    let steps = c.args.openings.now in
-    let low = team_from a.choice.now team in
-    let high = team_to a.choice.now team in
-    let inside = team_in a.choice.now raw is.same team in
-    let i = c.loop-step.invariant r q in (
+    let rises : c.bounds-low.result.0 ≤ c.bounds-low.result.1 = omega (arith, c.bounds-low.ensures.low, c.bounds-low.ensures.high, team_rises a.choice.now team) in
+    let i = c.loop-process.invariant.pairs r q in (
       λ h. (let k = i.0 h in
-          let x = from_openings v r q low high a.start is.start steps c.requires.openings inside k.0 (omega (arith, k.1, c.loop-step.auto.step-index-end)) k.2 in
-          way_outcome t a.choice.now raw is.same team v.process x.0 r q x.1 x.2 x.3),
+          way_outcome t a.choice.now raw is.same team v.process k.0 r q k.2.0 (omega (arith, k.1, c.bounds-low.ensures.high, c.loop-process.auto.process-end rises)) k.2.1),
       λ h. (let x = outcome_way t a.choice.now raw is.same team v.process r q h in
-          let k = to_openings v r q low high a.start is.start steps c.requires.openings inside x.0 x.1 x.2 x.3 in
-          i.1 (k.0, omega (arith, k.1, c.loop-step-test.false), k.2)),
+          i.1 (x.0, omega (arith, x.2, c.bounds-low.ensures.high, c.loop-process-test.false), (x.1, x.3))),
     )

@@ -1,42 +1,24 @@
-use Rattle.std.proofs.Common.{◌≡◌, ◌∙◌, ◌≤◌, [], ℕ, List, ap, arith, map, subst, sym, take}
-use Rattle.std.specs.Prelude.{Vec, vec_len}
-use Rattle.std.specs.declared.alloc.Global.{Global}
+use Rattle.std.proofs.Common.{◌∙◌, ◌<◌, ◌≤◌, ℕ, arith, length, sym}
+use Rattle.std.specs.Prelude.{vec_len}
 use Rattle.std.proofs.lemmas.Bool.{eqb-true}
-use Rattle.std.proofs.lemmas.List.{nil_from_length}
-use borrow.Author.Count.{below_more}
-use Rattle.cn_table.specs.declared.elements.Operation.{Operation}
-use Rattle.cn_pairs.specs.SetNumbers.{numbers, set_lists, set_of}
+use Rattle.std.proofs.lemmas.Result.{IfOk-weaker}
+use Rattle.cn_pairs.specs.SetNumbers.{set_lists}
 use Rattle.cn_pairs.specs.Smallest.{NoneHas}
-use Rattle.cn_pairs.specs.declared.restricted.SetNumber.{SetNumber}
-use Rattle.cn_pairs.proofs.FirstSets.{none_found, up_to_two, with_number}
+use Rattle.cn_pairs.proofs.FirstSets.{nothing_in, up_to_two}
+use Rattle.cn_pairs.proofs.WholeSets.{whole_smallest}
 use Rattle.cn_pairs.proofs.smallest.larger_sets.Goals as goal
 
-pub returns-then-not-is_empty-clause-found : goal.returns-then-not-is_empty-clause-found
-returns-then-not-is_empty-clause-found g c = λ _. record {
-  size = c.loop-size.size;
-  some = omega arith;
-  all = c.in_ok-sets.sets.items;
-  are = c.in_ok-sets.ensures;
-  first = subst (λ (sets : List SetNumber). set_lists c.in_ok-found.found ≡ map set_of (take 12 (with_number c.args.number sets)))
-      c.as_slice.ensures.value c.in_ok-found.ensures;
-  none_smaller = c.loop-size.invariant;
-}
+pub returns-then-operations-le3 : goal.returns-then-operations-le3
+returns-then-operations-le3 g c =
+    let few : length c.args.table.now.operations ≤ 3 = omega (arith, c.if-operations-le3.true, c.operations-operations.ensures.number) in
+    let none : (k : ℕ) → 1 ≤ k → k < length c.args.table.now.operations → NoneHas c.args.table.now k c.args.number =
+    λ k some l. up_to_two (λ (k : ℕ). NoneHas c.args.table.now k c.args.number) c.requires.alone c.requires.pairs k some (omega (arith, l, few)) in
+    IfOk-weaker c.sets_of_size.result _ _ (λ sets e. whole_smallest c.args.table.now c.args.number c.operations-operations.result (set_lists sets) c.requires.number
+    c.operations-operations.ensures.number c.operations-operations.ensures.range.0 e none) c.sets_of_size.ensures
 
-pub loop-size-preserved : goal.loop-size-preserved
-loop-size-preserved g c =
-    let first : set_lists c.in_ok-found.found ≡ map set_of (take 12 (with_number c.args.number c.in_ok-sets.sets.items)) =
-    subst (λ (sets : List SetNumber). set_lists c.in_ok-found.found ≡ map set_of (take 12 (with_number c.args.number sets)))
-    c.as_slice.ensures.value c.in_ok-found.ensures in
-    let none : vec_len c.in_ok-found.found ≡ 0 = eqb-true (vec_len c.in_ok-found.found) 0 (sym c.is_empty.ensures ∙ c.if-not-is_empty.false) in
-    let empty : set_lists c.in_ok-found.found ≡ [] =
-    ap (map (λ (set : Vec Operation Global). numbers set.items)) (nil_from_length c.in_ok-found.found.items (omega (arith, none, c.in_ok-found.found.ok.0))) in
-    let here : NoneHas c.args.table.now c.loop-size.size c.args.number = (
-      c.in_ok-sets.sets.items,
-      c.in_ok-sets.ensures,
-      none_found c.args.number c.in_ok-sets.sets.items (set_lists c.in_ok-found.found) first empty,
-    ) in
-    λ size some l. below_more (λ (k : ℕ). 1 ≤ k → NoneHas c.args.table.now k c.args.number) c.loop-size.size
-    (λ k u s. c.loop-size.invariant k s u) (λ _. here) size l some
-
-pub loop-size-init : goal.loop-size-init
-loop-size-init g c = up_to_two (λ (k : ℕ). NoneHas c.args.table.now k c.args.number) c.requires.alone c.requires.pairs
+pub returns : goal.returns
+returns g c =
+    let none : (k : ℕ) → 1 ≤ k → k < length c.args.table.now.operations → NoneHas c.args.table.now k c.args.number =
+    c.in_ok-found.ensures.none (nothing_in c.in_ok-found.found (eqb-true (vec_len c.in_ok-found.found) 0 (sym c.is_empty.ensures ∙ c.if-not-is_empty.false))) in
+    IfOk-weaker c.sets_of_size-2.result _ _ (λ sets e. whole_smallest c.args.table.now c.args.number c.operations-operations.result (set_lists sets) c.requires.number
+    c.operations-operations.ensures.number c.operations-operations.ensures.range.0 e none) c.sets_of_size-2.ensures

@@ -19,7 +19,7 @@ loop-set-preserved c =
     sym (ap length c.loop-set.invariant) ∙ length-map c.loop-set.found.items (λ (x : Vec Operation Global). numbers x.items) in
     elim c.if-len-lt-MOST_SETS.branch [
       | then-len-lt-MOST_SETS+then-is_same+in_ok-from_slice+in_ok-push w ↦
-          pushed_set c.loop-set.found.items c.if-len-lt-MOST_SETS.found.items w.in_ok-from_slice.field-0 so_far s
+          pushed_set c.loop-set.found.items c.if-len-lt-MOST_SETS.found.items w.in_ok-from_slice.field-0 so_far s.operations.items
           (ap (λ v. v.items) w.found-is ∙ w.in_ok-push.ensures.items) c.loop-set.invariant (w.in_ok-from_slice.ensures.items ∙ w.as_slice.ensures.value)
           ∙ sym (one_found c.args.number all i s c.loop-set-test.true c.set-item.is
           (omega (arith, long, w.if-len-lt-MOST_SETS.true, c.len.ensures, c.loop-set.found.ok.0)) (sym w.is_same.ensures ∙ w.if-is_same.true))

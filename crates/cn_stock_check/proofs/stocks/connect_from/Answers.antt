@@ -1,4 +1,4 @@
-use Rattle.std.proofs.Common.{◌↔◌, [], ◌∷◌, ℕ, List, IsTrue, subst, sym}
+use Rattle.std.proofs.Common.{◌↔◌, [], ◌∷◌, ℕ, List, IsTrue, length, subst, sym}
 use Rattle.std.proofs.lemmas.Result.{IfOk-weaker}
 use Rattle.cn_joins.specs.Joins.{Join}
 use Rattle.cn_stock_check.specs.Needs.{AreNeedsOf, ConnectFrom, ConnectWith, HasCounts}
@@ -7,9 +7,10 @@ use Rattle.cn_stock_check.proofs.stocks.connect_from.Goals as goal
 
 pub returns : goal.returns
 returns c =
+    let t = c.args.table.now in
     IfOk-weaker c.all_connected.result
-    (λ answer. (joins : List Join) (start : ℕ) (stock : List ℕ) → AreNeedsOf joins start 0 stock c.as_slice.result.now → HasCounts (0 ∷ 0 ∷ 0 ∷ 0 ∷ 0 ∷ 0 ∷ 0 ∷ 0 ∷ []) stock → IsTrue answer ↔ ConnectWith joins start stock 0 c.args.operations c.args.n)
-    (λ answer. IsTrue answer ↔ ConnectFrom c.args.operations c.args.n c.args.joins.now c.args.start)
-    (λ answer h. from_none c.args.joins.now c.args.start c.args.operations c.args.n answer
+    (λ answer. (joins : List Join) (start : ℕ) (stock : List ℕ) → AreNeedsOf joins start 0 stock c.as_slice.result.now → HasCounts (0 ∷ 0 ∷ 0 ∷ 0 ∷ 0 ∷ 0 ∷ 0 ∷ 0 ∷ []) stock → IsTrue answer ↔ ConnectWith t joins start stock 0 (length t.operations) c.args.n)
+    (λ answer. IsTrue answer ↔ ConnectFrom t c.args.n c.args.joins.now c.args.start)
+    (λ answer h. from_none t c.args.joins.now c.args.start c.args.n answer
     (h c.args.joins.now c.args.start [] (subst (AreNeedsOf c.args.joins.now c.args.start 0 []) (sym c.as_slice.ensures.value) c.in_ok-needs.ensures.needs) counts_none))
     c.all_connected.ensures

@@ -10,7 +10,6 @@ returns g c = (
       alone = c.in_ok-pairs.ensures.alone;
       pairs = c.in_ok-pairs.ensures.pairs;
       smallest = c.in_ok-pairs.ensures.smallest;
-      none = c.in_ok-pairs.ensures.none;
     },
     ap string_bytes c.whole.ensures.text ∙ c.in_ok-text_of.ensures,
   ),
