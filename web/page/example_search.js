@@ -1,4 +1,4 @@
-// The search over the examples: by their names, by what is said of them, and by their numbers.
+// The search over the examples: by their names, by the words of engineers, by what is said of them, and by their numbers.
 var Cnum = globalThis.Cnum || {};
 
 (() => {
@@ -10,32 +10,61 @@ var Cnum = globalThis.Cnum || {};
     const plain = text => text.toLowerCase().replace(/[-_/\s]+/g, ' ');
 
     const nameOf = path => path.split('/').pop();
+    const inLanguage = said => said[Cnum.language] || said[Cnum.FIRST_LANGUAGE];
 
-    // The examples with the words by which each is found: its name, its group, what is said of it, and the
-    // first lines of its table, which say what it is and where it is from.
+    // What is said of an example, in the language of the reader; and in all of them.
+    for (const it of Cnum.examples.flatMap(({ types }) => types)) {
+        it.said = it.about;
+        Object.defineProperty(it, 'about', { get: () => inLanguage(it.said) });
+    }
+
+    // The words of engineers, each with the names of the examples that it finds, the best first.
+    const WORDS = new Map(Object.entries(Cnum.exampleWords).map(([word, names]) => [plain(word), names]));
+
+    // The examples with the words by which each is found: its name, its group, what is said of it, the first lines of its
+    // table, which say what it is and where it is from, the instructions and calls that it stands for, and the words of engineers.
     Cnum.exampleIndex = function () {
-        const remarks = text => text.split('\n').filter(it => it.startsWith('#')).join(' ');
+        const remarks = text => text.split('\n').filter(it => it.startsWith('#'));
         return Cnum.examples.flatMap(({ name: group, types }) =>
-            types.map(({ path, about, text }) => {
-                const name = nameOf(path);
-                return { path, name, group, about, words: plain([name, group, about, remarks(text)].join(' ')) };
+            types.map(example => {
+                const name = nameOf(example.path);
+                const words = [...WORDS.keys()].filter(it => WORDS.get(it).includes(name));
+                const texts = [name, ...Object.values(group), ...Object.values(example.said), ...remarks(example.text), ...(example.used || []), ...words];
+                return { path: example.path, name, group, example, words: plain(texts.join(' ')) };
             }),
         );
     };
 
-    // How well a name fits: 0 if it is what is asked for, and more the less it fits.
-    function distance(name, asked) {
-        const places = [name === asked, name.startsWith(asked), name.includes(asked), true];
-        return places.indexOf(true);
+    const isLetter = sign => sign !== undefined && sign.toLowerCase() !== sign.toUpperCase();
+
+    // Whether a word of a text begins like this.
+    function hasWord(text, begin) {
+        let at = text.indexOf(begin);
+        while (at >= 0 && isLetter(text[at - 1])) at = text.indexOf(begin, at + 1);
+        return at >= 0;
     }
 
-    // The examples in which each word of the query stands, those first in whose names it does. With a number,
-    // only those of this number.
+    // How well an example fits, as a kind and a place in it: [0, 0] if its name is what is asked for, and more the less it fits. A word
+    // of engineers has its own order of the examples, also if it is not typed to its end.
+    function distance(it, asked) {
+        const name = plain(it.name);
+        const whole = (WORDS.get(asked) || []).indexOf(it.name);
+        const begun = [...WORDS].flatMap(([word, names]) => (word.startsWith(asked) ? names : [])).indexOf(it.name);
+        const kind = [name === asked, whole >= 0, name.startsWith(asked), begun >= 0, name.includes(asked), true].indexOf(true);
+        return [kind, [0, whole, 0, begun][kind] || 0];
+    }
+
+    // The examples of each word of the query: it stands in the name, or a word that is said of the example begins like it. The best
+    // come first. With a number, only those of this number.
     Cnum.foundExamples = function (index, query, isOfNumber = () => true) {
         const asked = plain(query.trim());
-        const found = index.filter(it => asked.split(' ').every(word => it.words.includes(word)) && isOfNumber(it.path));
-        const distances = new Map(found.map(it => [it, distance(plain(it.name), asked)]));
-        return found.sort((a, b) => distances.get(a) - distances.get(b));
+        const hasAll = it => asked.split(' ').every(word => plain(it.name).includes(word) || hasWord(it.words, word));
+        const found = index.filter(it => hasAll(it) && isOfNumber(it.path));
+        const distances = new Map(found.map(it => [it, distance(it, asked)]));
+        return found.sort((a, b) => {
+            const [[kind, place], [otherKind, otherPlace]] = [distances.get(a), distances.get(b)];
+            return kind - otherKind || place - otherPlace;
+        });
     };
 
     // The texts of numbers, each of them once, in order.
@@ -123,13 +152,13 @@ var Cnum = globalThis.Cnum || {};
             this.mark(query && found.length ? 0 : -1);
         }
 
-        option({ path, name, group, about }, place) {
+        option({ path, name, group, example }, place) {
             const numbers = this.numbers && this.numbers.get(path);
             const parts = [
                 element('strong', {}, name),
                 ...(numbers ? [` ${Cnum.numbersText(numbers)}`] : []),
-                element('span', { class: 'group' }, group),
-                element('span', { class: 'about' }, about),
+                element('span', { class: 'group' }, inLanguage(group)),
+                element('span', { class: 'about' }, example.about),
             ];
             return element('li', { role: 'option', id: `example-${place}`, 'data-path': path }, ...parts);
         }
