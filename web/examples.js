@@ -11,7 +11,7 @@ Cnum.examples = [
    {
     "path": "types/test_and_set",
     "about": {
-     "en": "A bit that is set, and answers what it was. Of two processes, who is answered 0 was first. A third cannot tell which of two others was first, so the number is 2.",
+     "en": "A bit that is set, and answers what it was. Of two processes, who is answered 0 was first. A third does not learn which of two others was first, so the number is 2.",
      "de": "Ein Bit, das gesetzt wird und antwortet, was es war. Wer von zwei Prozessen 0 zur Antwort bekommt, war der erste. Ein dritter erfährt nicht, welcher von zwei anderen der erste war: die Zahl ist 2."
     },
     "text": "name = \"test_and_set\"\nstates = [\"zero\", \"one\"]\nresponses = [\"zero\", \"one\"]\n[[operation]]\nname = \"tas\"\nresponse = [\"zero\", \"one\"]\nnext = [\"one\", \"one\"]\n"
@@ -35,7 +35,7 @@ Cnum.examples = [
    {
     "path": "types/fetch_and_add_2",
     "about": {
-     "en": "A counter modulo 2, which answers what it was. Two increments from 0 are answered 0 and 1. Increments commute, so a third process cannot tell who was first: the number is 2.",
+     "en": "A counter modulo 2, which answers what it was. Two increments from 0 are answered 0 and 1. Increments commute, so a third process does not learn who was first: the number is 2.",
      "de": "Ein Zähler modulo 2, der antwortet, was er war. Zwei Erhöhungen ab 0 bekommen 0 und 1 zur Antwort. Erhöhungen vertauschen, also erfährt ein dritter Prozess nicht, wer der erste war: die Zahl ist 2."
     },
     "text": "name = \"fetch_and_add_2\"\nstates = [\"zero\", \"one\"]\nresponses = [\"zero\", \"one\"]\n[[operation]]\nname = \"add\"\nresponse = [\"zero\", \"one\"]\nnext = [\"one\", \"zero\"]\n"
@@ -43,7 +43,7 @@ Cnum.examples = [
    {
     "path": "types/binary_swap",
     "about": {
-     "en": "A bit that is written, and answers what it was. Who is answered the old value was first. Each write wipes out what was before it, so a third process cannot tell: the number is 2.",
+     "en": "A bit that is written, and answers what it was. Who is answered the old value was first. Each write wipes out what was before it, so a third process does not learn it: the number is 2.",
      "de": "Ein Bit, das geschrieben wird und antwortet, was es war. Wer den alten Wert zur Antwort bekommt, war der erste. Jedes Schreiben löscht aus, was vorher war, also erfährt es ein dritter Prozess nicht: die Zahl ist 2."
     },
     "text": "name = \"binary_swap\"\nstates = [\"zero\", \"one\"]\nresponses = [\"zero\", \"one\"]\n[[operation]]\nname = \"swap0\"\nresponse = [\"zero\", \"one\"]\nnext = [\"zero\", \"zero\"]\n[[operation]]\nname = \"swap1\"\nresponse = [\"zero\", \"one\"]\nnext = [\"one\", \"one\"]\n"
@@ -67,7 +67,7 @@ Cnum.examples = [
    {
     "path": "types/counter_3",
     "about": {
-     "en": "A counter modulo 3, which answers what it was. Two increments from 0 are answered 0 and 1. Increments commute, so a third process cannot tell who was first: the number is 2.",
+     "en": "A counter modulo 3, which answers what it was. Two increments from 0 are answered 0 and 1. Increments commute, so a third process does not learn who was first: the number is 2.",
      "de": "Ein Zähler modulo 3, der antwortet, was er war. Zwei Erhöhungen ab 0 bekommen 0 und 1 zur Antwort. Erhöhungen vertauschen, also erfährt ein dritter Prozess nicht, wer der erste war: die Zahl ist 2."
     },
     "text": "name = \"counter_3\"\nstates = [\"0\", \"1\", \"2\"]\nresponses = [\"0\", \"1\", \"2\"]\n[[operation]]\nname = \"inc\"\nresponse = [\"0\", \"1\", \"2\"]\nnext = [\"1\", \"2\", \"0\"]\n"
@@ -1188,7 +1188,7 @@ Cnum.examples = [
    {
     "path": "catalogue/window_2_full",
     "about": {
-     "en": "Keeps the last 2 of the bits written, in order; full from the start. Both values in it are old, and nothing marks an empty place, so two writers cannot tell who was first: the number is 1, one less than that of a window that starts empty.",
+     "en": "Keeps the last 2 of the bits written, in order; full from the start. Both values in it are old, and nothing marks an empty place, so two writers do not learn who was first: the number is 1, one less than that of a window that starts empty.",
      "de": "Behält die letzten 2 geschriebenen Bits, in ihrer Reihenfolge; von Anfang an voll. Kein Zeichen steht für einen leeren Platz, also erkennen zwei nicht, wer zuerst schrieb: die Zahl ist 1, eins weniger als bei einem Fenster, das leer beginnt."
     },
     "text": "# Keeps the last 2 of the bits written, in order; full from the start.\n# Sliding-window register of Mostéfaoui, Perrin and Raynal 2018, but for the start.\nname = \"window_2_full\"\nstates = [\"w00\", \"w01\", \"w10\", \"w11\"]\nresponses = [\"ok\"]\n[[operation]]\nname = \"write0\"\nresponse = [\"ok\", \"ok\", \"ok\", \"ok\"]\nnext = [\"w00\", \"w10\", \"w00\", \"w10\"]\n[[operation]]\nname = \"write1\"\nresponse = [\"ok\", \"ok\", \"ok\", \"ok\"]\nnext = [\"w01\", \"w11\", \"w01\", \"w11\"]\n"
@@ -1228,7 +1228,7 @@ Cnum.examples = [
    {
     "path": "catalogue/fetch_inc_mod2",
     "about": {
-     "en": "A counter modulo 2 whose increment answers with the count before it. Increments commute, so a third process cannot tell who was first. Two from 0 are answered 0 and 1: the number is 2. Literature: 2, for a counter without bound (Herlihy 1991).",
+     "en": "A counter modulo 2 whose increment answers with the count before it. Increments commute, so a third process does not learn who was first. Two from 0 are answered 0 and 1: the number is 2. Literature: 2, for a counter without bound (Herlihy 1991).",
      "de": "Ein Zähler modulo 2, dessen Erhöhen mit dem Stand davor antwortet. Erhöhungen vertauschen, also erfährt ein dritter Prozess nicht, wer der erste war. Zwei ab 0 bekommen 0 und 1 zur Antwort: die Zahl ist 2. Literatur: 2, für einen Zähler ohne Grenze (Herlihy 1991)."
     },
     "text": "# A counter modulo 2 whose increment answers with the count before it.\n# Fetch-and-add of 1: Herlihy 1991.\nname = \"fetch_inc_mod2\"\nstates = [\"0\", \"1\"]\nresponses = [\"0\", \"1\"]\n[[operation]]\nname = \"fetch_inc\"\nresponse = [\"0\", \"1\"]\nnext = [\"1\", \"0\"]\n"
@@ -1236,7 +1236,7 @@ Cnum.examples = [
    {
     "path": "catalogue/fetch_inc_mod3",
     "about": {
-     "en": "A counter modulo 3 whose increment answers with the count before it. Increments commute, so a third process cannot tell who was first. Two from 0 are answered 0 and 1: the number is 2. Literature: 2, for a counter without bound (Herlihy 1991).",
+     "en": "A counter modulo 3 whose increment answers with the count before it. Increments commute, so a third process does not learn who was first. Two from 0 are answered 0 and 1: the number is 2. Literature: 2, for a counter without bound (Herlihy 1991).",
      "de": "Ein Zähler modulo 3, dessen Erhöhen mit dem Stand davor antwortet. Erhöhungen vertauschen, also erfährt ein dritter Prozess nicht, wer der erste war. Zwei ab 0 bekommen 0 und 1 zur Antwort: die Zahl ist 2. Literatur: 2, für einen Zähler ohne Grenze (Herlihy 1991)."
     },
     "text": "# A counter modulo 3 whose increment answers with the count before it.\n# Fetch-and-add of 1: Herlihy 1991.\nname = \"fetch_inc_mod3\"\nstates = [\"0\", \"1\", \"2\"]\nresponses = [\"0\", \"1\", \"2\"]\n[[operation]]\nname = \"fetch_inc\"\nresponse = [\"0\", \"1\", \"2\"]\nnext = [\"1\", \"2\", \"0\"]\n"
@@ -1244,7 +1244,7 @@ Cnum.examples = [
    {
     "path": "catalogue/fetch_inc_mod4",
     "about": {
-     "en": "A counter modulo 4 whose increment answers with the count before it. Increments commute, so a third process cannot tell who was first. Two from 0 are answered 0 and 1: the number is 2. Literature: 2, for a counter without bound (Herlihy 1991).",
+     "en": "A counter modulo 4 whose increment answers with the count before it. Increments commute, so a third process does not learn who was first. Two from 0 are answered 0 and 1: the number is 2. Literature: 2, for a counter without bound (Herlihy 1991).",
      "de": "Ein Zähler modulo 4, dessen Erhöhen mit dem Stand davor antwortet. Erhöhungen vertauschen, also erfährt ein dritter Prozess nicht, wer der erste war. Zwei ab 0 bekommen 0 und 1 zur Antwort: die Zahl ist 2. Literatur: 2, für einen Zähler ohne Grenze (Herlihy 1991)."
     },
     "text": "# A counter modulo 4 whose increment answers with the count before it.\n# Fetch-and-add of 1: Herlihy 1991.\nname = \"fetch_inc_mod4\"\nstates = [\"0\", \"1\", \"2\", \"3\"]\nresponses = [\"0\", \"1\", \"2\", \"3\"]\n[[operation]]\nname = \"fetch_inc\"\nresponse = [\"0\", \"1\", \"2\", \"3\"]\nnext = [\"1\", \"2\", \"3\", \"0\"]\n"
@@ -1252,7 +1252,7 @@ Cnum.examples = [
    {
     "path": "catalogue/fetch_inc_mod5",
     "about": {
-     "en": "A counter modulo 5 whose increment answers with the count before it. Increments commute, so a third process cannot tell who was first. Two from 0 are answered 0 and 1: the number is 2. Literature: 2, for a counter without bound (Herlihy 1991).",
+     "en": "A counter modulo 5 whose increment answers with the count before it. Increments commute, so a third process does not learn who was first. Two from 0 are answered 0 and 1: the number is 2. Literature: 2, for a counter without bound (Herlihy 1991).",
      "de": "Ein Zähler modulo 5, dessen Erhöhen mit dem Stand davor antwortet. Erhöhungen vertauschen, also erfährt ein dritter Prozess nicht, wer der erste war. Zwei ab 0 bekommen 0 und 1 zur Antwort: die Zahl ist 2. Literatur: 2, für einen Zähler ohne Grenze (Herlihy 1991)."
     },
     "text": "# A counter modulo 5 whose increment answers with the count before it.\n# Fetch-and-add of 1: Herlihy 1991.\nname = \"fetch_inc_mod5\"\nstates = [\"0\", \"1\", \"2\", \"3\", \"4\"]\nresponses = [\"0\", \"1\", \"2\", \"3\", \"4\"]\n[[operation]]\nname = \"fetch_inc\"\nresponse = [\"0\", \"1\", \"2\", \"3\", \"4\"]\nnext = [\"1\", \"2\", \"3\", \"4\", \"0\"]\n"
@@ -1260,7 +1260,7 @@ Cnum.examples = [
    {
     "path": "catalogue/fetch_inc_mod6",
     "about": {
-     "en": "A counter modulo 6 whose increment answers with the count before it. Increments commute, so a third process cannot tell who was first. Two from 0 are answered 0 and 1: the number is 2. Literature: 2, for a counter without bound (Herlihy 1991).",
+     "en": "A counter modulo 6 whose increment answers with the count before it. Increments commute, so a third process does not learn who was first. Two from 0 are answered 0 and 1: the number is 2. Literature: 2, for a counter without bound (Herlihy 1991).",
      "de": "Ein Zähler modulo 6, dessen Erhöhen mit dem Stand davor antwortet. Erhöhungen vertauschen, also erfährt ein dritter Prozess nicht, wer der erste war. Zwei ab 0 bekommen 0 und 1 zur Antwort: die Zahl ist 2. Literatur: 2, für einen Zähler ohne Grenze (Herlihy 1991)."
     },
     "text": "# A counter modulo 6 whose increment answers with the count before it.\n# Fetch-and-add of 1: Herlihy 1991.\nname = \"fetch_inc_mod6\"\nstates = [\"0\", \"1\", \"2\", \"3\", \"4\", \"5\"]\nresponses = [\"0\", \"1\", \"2\", \"3\", \"4\", \"5\"]\n[[operation]]\nname = \"fetch_inc\"\nresponse = [\"0\", \"1\", \"2\", \"3\", \"4\", \"5\"]\nnext = [\"1\", \"2\", \"3\", \"4\", \"5\", \"0\"]\n"
@@ -1268,7 +1268,7 @@ Cnum.examples = [
    {
     "path": "catalogue/fetch_inc_mod7",
     "about": {
-     "en": "A counter modulo 7 whose increment answers with the count before it. Increments commute, so a third process cannot tell who was first. Two from 0 are answered 0 and 1: the number is 2. Literature: 2, for a counter without bound (Herlihy 1991).",
+     "en": "A counter modulo 7 whose increment answers with the count before it. Increments commute, so a third process does not learn who was first. Two from 0 are answered 0 and 1: the number is 2. Literature: 2, for a counter without bound (Herlihy 1991).",
      "de": "Ein Zähler modulo 7, dessen Erhöhen mit dem Stand davor antwortet. Erhöhungen vertauschen, also erfährt ein dritter Prozess nicht, wer der erste war. Zwei ab 0 bekommen 0 und 1 zur Antwort: die Zahl ist 2. Literatur: 2, für einen Zähler ohne Grenze (Herlihy 1991)."
     },
     "text": "# A counter modulo 7 whose increment answers with the count before it.\n# Fetch-and-add of 1: Herlihy 1991.\nname = \"fetch_inc_mod7\"\nstates = [\"0\", \"1\", \"2\", \"3\", \"4\", \"5\", \"6\"]\nresponses = [\"0\", \"1\", \"2\", \"3\", \"4\", \"5\", \"6\"]\n[[operation]]\nname = \"fetch_inc\"\nresponse = [\"0\", \"1\", \"2\", \"3\", \"4\", \"5\", \"6\"]\nnext = [\"1\", \"2\", \"3\", \"4\", \"5\", \"6\", \"0\"]\n"
@@ -1276,7 +1276,7 @@ Cnum.examples = [
    {
     "path": "catalogue/fetch_inc_mod8",
     "about": {
-     "en": "A counter modulo 8 whose increment answers with the count before it. Increments commute, so a third process cannot tell who was first. Two from 0 are answered 0 and 1: the number is 2. Literature: 2, for a counter without bound (Herlihy 1991).",
+     "en": "A counter modulo 8 whose increment answers with the count before it. Increments commute, so a third process does not learn who was first. Two from 0 are answered 0 and 1: the number is 2. Literature: 2, for a counter without bound (Herlihy 1991).",
      "de": "Ein Zähler modulo 8, dessen Erhöhen mit dem Stand davor antwortet. Erhöhungen vertauschen, also erfährt ein dritter Prozess nicht, wer der erste war. Zwei ab 0 bekommen 0 und 1 zur Antwort: die Zahl ist 2. Literatur: 2, für einen Zähler ohne Grenze (Herlihy 1991)."
     },
     "text": "# A counter modulo 8 whose increment answers with the count before it.\n# Fetch-and-add of 1: Herlihy 1991.\nname = \"fetch_inc_mod8\"\nstates = [\"0\", \"1\", \"2\", \"3\", \"4\", \"5\", \"6\", \"7\"]\nresponses = [\"0\", \"1\", \"2\", \"3\", \"4\", \"5\", \"6\", \"7\"]\n[[operation]]\nname = \"fetch_inc\"\nresponse = [\"0\", \"1\", \"2\", \"3\", \"4\", \"5\", \"6\", \"7\"]\nnext = [\"1\", \"2\", \"3\", \"4\", \"5\", \"6\", \"7\", \"0\"]\n"
@@ -1284,7 +1284,7 @@ Cnum.examples = [
    {
     "path": "catalogue/fetch_inc_mod9",
     "about": {
-     "en": "A counter modulo 9 whose increment answers with the count before it. Increments commute, so a third process cannot tell who was first. Two from 0 are answered 0 and 1: the number is 2. Literature: 2, for a counter without bound (Herlihy 1991).",
+     "en": "A counter modulo 9 whose increment answers with the count before it. Increments commute, so a third process does not learn who was first. Two from 0 are answered 0 and 1: the number is 2. Literature: 2, for a counter without bound (Herlihy 1991).",
      "de": "Ein Zähler modulo 9, dessen Erhöhen mit dem Stand davor antwortet. Erhöhungen vertauschen, also erfährt ein dritter Prozess nicht, wer der erste war. Zwei ab 0 bekommen 0 und 1 zur Antwort: die Zahl ist 2. Literatur: 2, für einen Zähler ohne Grenze (Herlihy 1991)."
     },
     "text": "# A counter modulo 9 whose increment answers with the count before it.\n# Fetch-and-add of 1: Herlihy 1991.\nname = \"fetch_inc_mod9\"\nstates = [\"0\", \"1\", \"2\", \"3\", \"4\", \"5\", \"6\", \"7\", \"8\"]\nresponses = [\"0\", \"1\", \"2\", \"3\", \"4\", \"5\", \"6\", \"7\", \"8\"]\n[[operation]]\nname = \"fetch_inc\"\nresponse = [\"0\", \"1\", \"2\", \"3\", \"4\", \"5\", \"6\", \"7\", \"8\"]\nnext = [\"1\", \"2\", \"3\", \"4\", \"5\", \"6\", \"7\", \"8\", \"0\"]\n"
@@ -1292,7 +1292,7 @@ Cnum.examples = [
    {
     "path": "catalogue/fetch_inc_mod10",
     "about": {
-     "en": "A counter modulo 10 whose increment answers with the count before it. Increments commute, so a third process cannot tell who was first. Two from 0 are answered 0 and 1: the number is 2. Literature: 2, for a counter without bound (Herlihy 1991).",
+     "en": "A counter modulo 10 whose increment answers with the count before it. Increments commute, so a third process does not learn who was first. Two from 0 are answered 0 and 1: the number is 2. Literature: 2, for a counter without bound (Herlihy 1991).",
      "de": "Ein Zähler modulo 10, dessen Erhöhen mit dem Stand davor antwortet. Erhöhungen vertauschen, also erfährt ein dritter Prozess nicht, wer der erste war. Zwei ab 0 bekommen 0 und 1 zur Antwort: die Zahl ist 2. Literatur: 2, für einen Zähler ohne Grenze (Herlihy 1991)."
     },
     "text": "# A counter modulo 10 whose increment answers with the count before it.\n# Fetch-and-add of 1: Herlihy 1991.\nname = \"fetch_inc_mod10\"\nstates = [\"0\", \"1\", \"2\", \"3\", \"4\", \"5\", \"6\", \"7\", \"8\", \"9\"]\nresponses = [\"0\", \"1\", \"2\", \"3\", \"4\", \"5\", \"6\", \"7\", \"8\", \"9\"]\n[[operation]]\nname = \"fetch_inc\"\nresponse = [\"0\", \"1\", \"2\", \"3\", \"4\", \"5\", \"6\", \"7\", \"8\", \"9\"]\nnext = [\"1\", \"2\", \"3\", \"4\", \"5\", \"6\", \"7\", \"8\", \"9\", \"0\"]\n"
@@ -1300,7 +1300,7 @@ Cnum.examples = [
    {
     "path": "catalogue/fetch_inc_mod11",
     "about": {
-     "en": "A counter modulo 11 whose increment answers with the count before it. Increments commute, so a third process cannot tell who was first. Two from 0 are answered 0 and 1: the number is 2. Literature: 2, for a counter without bound (Herlihy 1991).",
+     "en": "A counter modulo 11 whose increment answers with the count before it. Increments commute, so a third process does not learn who was first. Two from 0 are answered 0 and 1: the number is 2. Literature: 2, for a counter without bound (Herlihy 1991).",
      "de": "Ein Zähler modulo 11, dessen Erhöhen mit dem Stand davor antwortet. Erhöhungen vertauschen, also erfährt ein dritter Prozess nicht, wer der erste war. Zwei ab 0 bekommen 0 und 1 zur Antwort: die Zahl ist 2. Literatur: 2, für einen Zähler ohne Grenze (Herlihy 1991)."
     },
     "text": "# A counter modulo 11 whose increment answers with the count before it.\n# Fetch-and-add of 1: Herlihy 1991.\nname = \"fetch_inc_mod11\"\nstates = [\"0\", \"1\", \"2\", \"3\", \"4\", \"5\", \"6\", \"7\", \"8\", \"9\", \"10\"]\nresponses = [\"0\", \"1\", \"2\", \"3\", \"4\", \"5\", \"6\", \"7\", \"8\", \"9\", \"10\"]\n[[operation]]\nname = \"fetch_inc\"\nresponse = [\"0\", \"1\", \"2\", \"3\", \"4\", \"5\", \"6\", \"7\", \"8\", \"9\", \"10\"]\nnext = [\"1\", \"2\", \"3\", \"4\", \"5\", \"6\", \"7\", \"8\", \"9\", \"10\", \"0\"]\n"
@@ -1308,7 +1308,7 @@ Cnum.examples = [
    {
     "path": "catalogue/fetch_inc_mod12",
     "about": {
-     "en": "A counter modulo 12 whose increment answers with the count before it. Increments commute, so a third process cannot tell who was first. Two from 0 are answered 0 and 1: the number is 2. Literature: 2, for a counter without bound (Herlihy 1991).",
+     "en": "A counter modulo 12 whose increment answers with the count before it. Increments commute, so a third process does not learn who was first. Two from 0 are answered 0 and 1: the number is 2. Literature: 2, for a counter without bound (Herlihy 1991).",
      "de": "Ein Zähler modulo 12, dessen Erhöhen mit dem Stand davor antwortet. Erhöhungen vertauschen, also erfährt ein dritter Prozess nicht, wer der erste war. Zwei ab 0 bekommen 0 und 1 zur Antwort: die Zahl ist 2. Literatur: 2, für einen Zähler ohne Grenze (Herlihy 1991)."
     },
     "text": "# A counter modulo 12 whose increment answers with the count before it.\n# Fetch-and-add of 1: Herlihy 1991.\nname = \"fetch_inc_mod12\"\nstates = [\"0\", \"1\", \"2\", \"3\", \"4\", \"5\", \"6\", \"7\", \"8\", \"9\", \"10\", \"11\"]\nresponses = [\"0\", \"1\", \"2\", \"3\", \"4\", \"5\", \"6\", \"7\", \"8\", \"9\", \"10\", \"11\"]\n[[operation]]\nname = \"fetch_inc\"\nresponse = [\"0\", \"1\", \"2\", \"3\", \"4\", \"5\", \"6\", \"7\", \"8\", \"9\", \"10\", \"11\"]\nnext = [\"1\", \"2\", \"3\", \"4\", \"5\", \"6\", \"7\", \"8\", \"9\", \"10\", \"11\", \"0\"]\n"
@@ -1316,7 +1316,7 @@ Cnum.examples = [
    {
     "path": "catalogue/fetch_inc_mod13",
     "about": {
-     "en": "A counter modulo 13 whose increment answers with the count before it. Increments commute, so a third process cannot tell who was first. Two from 0 are answered 0 and 1: the number is 2. Literature: 2, for a counter without bound (Herlihy 1991).",
+     "en": "A counter modulo 13 whose increment answers with the count before it. Increments commute, so a third process does not learn who was first. Two from 0 are answered 0 and 1: the number is 2. Literature: 2, for a counter without bound (Herlihy 1991).",
      "de": "Ein Zähler modulo 13, dessen Erhöhen mit dem Stand davor antwortet. Erhöhungen vertauschen, also erfährt ein dritter Prozess nicht, wer der erste war. Zwei ab 0 bekommen 0 und 1 zur Antwort: die Zahl ist 2. Literatur: 2, für einen Zähler ohne Grenze (Herlihy 1991)."
     },
     "text": "# A counter modulo 13 whose increment answers with the count before it.\n# Fetch-and-add of 1: Herlihy 1991.\nname = \"fetch_inc_mod13\"\nstates = [\"0\", \"1\", \"2\", \"3\", \"4\", \"5\", \"6\", \"7\", \"8\", \"9\", \"10\", \"11\", \"12\"]\nresponses = [\"0\", \"1\", \"2\", \"3\", \"4\", \"5\", \"6\", \"7\", \"8\", \"9\", \"10\", \"11\", \"12\"]\n[[operation]]\nname = \"fetch_inc\"\nresponse = [\"0\", \"1\", \"2\", \"3\", \"4\", \"5\", \"6\", \"7\", \"8\", \"9\", \"10\", \"11\", \"12\"]\nnext = [\"1\", \"2\", \"3\", \"4\", \"5\", \"6\", \"7\", \"8\", \"9\", \"10\", \"11\", \"12\", \"0\"]\n"
@@ -1324,7 +1324,7 @@ Cnum.examples = [
    {
     "path": "catalogue/fetch_inc_mod14",
     "about": {
-     "en": "A counter modulo 14 whose increment answers with the count before it. Increments commute, so a third process cannot tell who was first. Two from 0 are answered 0 and 1: the number is 2. Literature: 2, for a counter without bound (Herlihy 1991).",
+     "en": "A counter modulo 14 whose increment answers with the count before it. Increments commute, so a third process does not learn who was first. Two from 0 are answered 0 and 1: the number is 2. Literature: 2, for a counter without bound (Herlihy 1991).",
      "de": "Ein Zähler modulo 14, dessen Erhöhen mit dem Stand davor antwortet. Erhöhungen vertauschen, also erfährt ein dritter Prozess nicht, wer der erste war. Zwei ab 0 bekommen 0 und 1 zur Antwort: die Zahl ist 2. Literatur: 2, für einen Zähler ohne Grenze (Herlihy 1991)."
     },
     "text": "# A counter modulo 14 whose increment answers with the count before it.\n# Fetch-and-add of 1: Herlihy 1991.\nname = \"fetch_inc_mod14\"\nstates = [\"0\", \"1\", \"2\", \"3\", \"4\", \"5\", \"6\", \"7\", \"8\", \"9\", \"10\", \"11\", \"12\", \"13\"]\nresponses = [\"0\", \"1\", \"2\", \"3\", \"4\", \"5\", \"6\", \"7\", \"8\", \"9\", \"10\", \"11\", \"12\", \"13\"]\n[[operation]]\nname = \"fetch_inc\"\nresponse = [\"0\", \"1\", \"2\", \"3\", \"4\", \"5\", \"6\", \"7\", \"8\", \"9\", \"10\", \"11\", \"12\", \"13\"]\nnext = [\"1\", \"2\", \"3\", \"4\", \"5\", \"6\", \"7\", \"8\", \"9\", \"10\", \"11\", \"12\", \"13\", \"0\"]\n"
@@ -1332,7 +1332,7 @@ Cnum.examples = [
    {
     "path": "catalogue/fetch_inc_mod15",
     "about": {
-     "en": "A counter modulo 15 whose increment answers with the count before it. Increments commute, so a third process cannot tell who was first. Two from 0 are answered 0 and 1: the number is 2. Literature: 2, for a counter without bound (Herlihy 1991).",
+     "en": "A counter modulo 15 whose increment answers with the count before it. Increments commute, so a third process does not learn who was first. Two from 0 are answered 0 and 1: the number is 2. Literature: 2, for a counter without bound (Herlihy 1991).",
      "de": "Ein Zähler modulo 15, dessen Erhöhen mit dem Stand davor antwortet. Erhöhungen vertauschen, also erfährt ein dritter Prozess nicht, wer der erste war. Zwei ab 0 bekommen 0 und 1 zur Antwort: die Zahl ist 2. Literatur: 2, für einen Zähler ohne Grenze (Herlihy 1991)."
     },
     "text": "# A counter modulo 15 whose increment answers with the count before it.\n# Fetch-and-add of 1: Herlihy 1991.\nname = \"fetch_inc_mod15\"\nstates = [\"0\", \"1\", \"2\", \"3\", \"4\", \"5\", \"6\", \"7\", \"8\", \"9\", \"10\", \"11\", \"12\", \"13\", \"14\"]\nresponses = [\"0\", \"1\", \"2\", \"3\", \"4\", \"5\", \"6\", \"7\", \"8\", \"9\", \"10\", \"11\", \"12\", \"13\", \"14\"]\n[[operation]]\nname = \"fetch_inc\"\nresponse = [\"0\", \"1\", \"2\", \"3\", \"4\", \"5\", \"6\", \"7\", \"8\", \"9\", \"10\", \"11\", \"12\", \"13\", \"14\"]\nnext = [\"1\", \"2\", \"3\", \"4\", \"5\", \"6\", \"7\", \"8\", \"9\", \"10\", \"11\", \"12\", \"13\", \"14\", \"0\"]\n"
@@ -1340,7 +1340,7 @@ Cnum.examples = [
    {
     "path": "catalogue/fetch_inc_mod16",
     "about": {
-     "en": "A counter modulo 16 whose increment answers with the count before it. Increments commute, so a third process cannot tell who was first. Two from 0 are answered 0 and 1: the number is 2. Literature: 2, for a counter without bound (Herlihy 1991).",
+     "en": "A counter modulo 16 whose increment answers with the count before it. Increments commute, so a third process does not learn who was first. Two from 0 are answered 0 and 1: the number is 2. Literature: 2, for a counter without bound (Herlihy 1991).",
      "de": "Ein Zähler modulo 16, dessen Erhöhen mit dem Stand davor antwortet. Erhöhungen vertauschen, also erfährt ein dritter Prozess nicht, wer der erste war. Zwei ab 0 bekommen 0 und 1 zur Antwort: die Zahl ist 2. Literatur: 2, für einen Zähler ohne Grenze (Herlihy 1991)."
     },
     "text": "# A counter modulo 16 whose increment answers with the count before it.\n# Fetch-and-add of 1: Herlihy 1991.\nname = \"fetch_inc_mod16\"\nstates = [\"0\", \"1\", \"2\", \"3\", \"4\", \"5\", \"6\", \"7\", \"8\", \"9\", \"10\", \"11\", \"12\", \"13\", \"14\", \"15\"]\nresponses = [\"0\", \"1\", \"2\", \"3\", \"4\", \"5\", \"6\", \"7\", \"8\", \"9\", \"10\", \"11\", \"12\", \"13\", \"14\", \"15\"]\n[[operation]]\nname = \"fetch_inc\"\nresponse = [\"0\", \"1\", \"2\", \"3\", \"4\", \"5\", \"6\", \"7\", \"8\", \"9\", \"10\", \"11\", \"12\", \"13\", \"14\", \"15\"]\nnext = [\"1\", \"2\", \"3\", \"4\", \"5\", \"6\", \"7\", \"8\", \"9\", \"10\", \"11\", \"12\", \"13\", \"14\", \"15\", \"0\"]\n"
@@ -1348,7 +1348,7 @@ Cnum.examples = [
    {
     "path": "catalogue/fetch_add_mod3",
     "about": {
-     "en": "A counter modulo 3 to which any number from 1 to 2 is added, with the count before it as the answer. Additions commute, so a third process cannot tell who was first. Two additions of 1 to 0 are answered 0 and 1: the number is 2. Literature: 2, for a counter without bound (Herlihy 1991).",
+     "en": "A counter modulo 3 to which any number from 1 to 2 is added, with the count before it as the answer. Additions commute, so a third process does not learn who was first. Two additions of 1 to 0 are answered 0 and 1: the number is 2. Literature: 2, for a counter without bound (Herlihy 1991).",
      "de": "Ein Zähler modulo 3, zu dem jede kleinere Zahl ab 1 addiert wird, mit dem Stand davor als Antwort. Additionen vertauschen, also erfährt ein dritter Prozess nicht, wer der erste war. Zwei Additionen von 1 zu 0 bekommen 0 und 1 zur Antwort: die Zahl ist 2. Literatur: 2, für einen Zähler ohne Grenze (Herlihy 1991)."
     },
     "text": "# A counter modulo 3 to which any number from 1 to 2 is added, with the count before it as the answer.\n# Fetch-and-add: Herlihy 1991.\nname = \"fetch_add_mod3\"\nstates = [\"0\", \"1\", \"2\"]\nresponses = [\"0\", \"1\", \"2\"]\n[[operation]]\nname = \"fetch_add1\"\nresponse = [\"0\", \"1\", \"2\"]\nnext = [\"1\", \"2\", \"0\"]\n[[operation]]\nname = \"fetch_add2\"\nresponse = [\"0\", \"1\", \"2\"]\nnext = [\"2\", \"0\", \"1\"]\n"
@@ -1356,7 +1356,7 @@ Cnum.examples = [
    {
     "path": "catalogue/fetch_add_mod4",
     "about": {
-     "en": "A counter modulo 4 to which any number from 1 to 3 is added, with the count before it as the answer. Additions commute, so a third process cannot tell who was first. Two additions of 1 to 0 are answered 0 and 1: the number is 2. Literature: 2, for a counter without bound (Herlihy 1991).",
+     "en": "A counter modulo 4 to which any number from 1 to 3 is added, with the count before it as the answer. Additions commute, so a third process does not learn who was first. Two additions of 1 to 0 are answered 0 and 1: the number is 2. Literature: 2, for a counter without bound (Herlihy 1991).",
      "de": "Ein Zähler modulo 4, zu dem jede kleinere Zahl ab 1 addiert wird, mit dem Stand davor als Antwort. Additionen vertauschen, also erfährt ein dritter Prozess nicht, wer der erste war. Zwei Additionen von 1 zu 0 bekommen 0 und 1 zur Antwort: die Zahl ist 2. Literatur: 2, für einen Zähler ohne Grenze (Herlihy 1991)."
     },
     "text": "# A counter modulo 4 to which any number from 1 to 3 is added, with the count before it as the answer.\n# Fetch-and-add: Herlihy 1991.\nname = \"fetch_add_mod4\"\nstates = [\"0\", \"1\", \"2\", \"3\"]\nresponses = [\"0\", \"1\", \"2\", \"3\"]\n[[operation]]\nname = \"fetch_add1\"\nresponse = [\"0\", \"1\", \"2\", \"3\"]\nnext = [\"1\", \"2\", \"3\", \"0\"]\n[[operation]]\nname = \"fetch_add2\"\nresponse = [\"0\", \"1\", \"2\", \"3\"]\nnext = [\"2\", \"3\", \"0\", \"1\"]\n[[operation]]\nname = \"fetch_add3\"\nresponse = [\"0\", \"1\", \"2\", \"3\"]\nnext = [\"3\", \"0\", \"1\", \"2\"]\n"
@@ -1364,7 +1364,7 @@ Cnum.examples = [
    {
     "path": "catalogue/fetch_add_mod5",
     "about": {
-     "en": "A counter modulo 5 to which any number from 1 to 4 is added, with the count before it as the answer. Additions commute, so a third process cannot tell who was first. Two additions of 1 to 0 are answered 0 and 1: the number is 2. Literature: 2, for a counter without bound (Herlihy 1991).",
+     "en": "A counter modulo 5 to which any number from 1 to 4 is added, with the count before it as the answer. Additions commute, so a third process does not learn who was first. Two additions of 1 to 0 are answered 0 and 1: the number is 2. Literature: 2, for a counter without bound (Herlihy 1991).",
      "de": "Ein Zähler modulo 5, zu dem jede kleinere Zahl ab 1 addiert wird, mit dem Stand davor als Antwort. Additionen vertauschen, also erfährt ein dritter Prozess nicht, wer der erste war. Zwei Additionen von 1 zu 0 bekommen 0 und 1 zur Antwort: die Zahl ist 2. Literatur: 2, für einen Zähler ohne Grenze (Herlihy 1991)."
     },
     "text": "# A counter modulo 5 to which any number from 1 to 4 is added, with the count before it as the answer.\n# Fetch-and-add: Herlihy 1991.\nname = \"fetch_add_mod5\"\nstates = [\"0\", \"1\", \"2\", \"3\", \"4\"]\nresponses = [\"0\", \"1\", \"2\", \"3\", \"4\"]\n[[operation]]\nname = \"fetch_add1\"\nresponse = [\"0\", \"1\", \"2\", \"3\", \"4\"]\nnext = [\"1\", \"2\", \"3\", \"4\", \"0\"]\n[[operation]]\nname = \"fetch_add2\"\nresponse = [\"0\", \"1\", \"2\", \"3\", \"4\"]\nnext = [\"2\", \"3\", \"4\", \"0\", \"1\"]\n[[operation]]\nname = \"fetch_add3\"\nresponse = [\"0\", \"1\", \"2\", \"3\", \"4\"]\nnext = [\"3\", \"4\", \"0\", \"1\", \"2\"]\n[[operation]]\nname = \"fetch_add4\"\nresponse = [\"0\", \"1\", \"2\", \"3\", \"4\"]\nnext = [\"4\", \"0\", \"1\", \"2\", \"3\"]\n"
@@ -1372,7 +1372,7 @@ Cnum.examples = [
    {
     "path": "catalogue/fetch_add_mod6",
     "about": {
-     "en": "A counter modulo 6 to which any number from 1 to 5 is added, with the count before it as the answer. Additions commute, so a third process cannot tell who was first. Two additions of 1 to 0 are answered 0 and 1: the number is 2. Literature: 2, for a counter without bound (Herlihy 1991).",
+     "en": "A counter modulo 6 to which any number from 1 to 5 is added, with the count before it as the answer. Additions commute, so a third process does not learn who was first. Two additions of 1 to 0 are answered 0 and 1: the number is 2. Literature: 2, for a counter without bound (Herlihy 1991).",
      "de": "Ein Zähler modulo 6, zu dem jede kleinere Zahl ab 1 addiert wird, mit dem Stand davor als Antwort. Additionen vertauschen, also erfährt ein dritter Prozess nicht, wer der erste war. Zwei Additionen von 1 zu 0 bekommen 0 und 1 zur Antwort: die Zahl ist 2. Literatur: 2, für einen Zähler ohne Grenze (Herlihy 1991)."
     },
     "text": "# A counter modulo 6 to which any number from 1 to 5 is added, with the count before it as the answer.\n# Fetch-and-add: Herlihy 1991.\nname = \"fetch_add_mod6\"\nstates = [\"0\", \"1\", \"2\", \"3\", \"4\", \"5\"]\nresponses = [\"0\", \"1\", \"2\", \"3\", \"4\", \"5\"]\n[[operation]]\nname = \"fetch_add1\"\nresponse = [\"0\", \"1\", \"2\", \"3\", \"4\", \"5\"]\nnext = [\"1\", \"2\", \"3\", \"4\", \"5\", \"0\"]\n[[operation]]\nname = \"fetch_add2\"\nresponse = [\"0\", \"1\", \"2\", \"3\", \"4\", \"5\"]\nnext = [\"2\", \"3\", \"4\", \"5\", \"0\", \"1\"]\n[[operation]]\nname = \"fetch_add3\"\nresponse = [\"0\", \"1\", \"2\", \"3\", \"4\", \"5\"]\nnext = [\"3\", \"4\", \"5\", \"0\", \"1\", \"2\"]\n[[operation]]\nname = \"fetch_add4\"\nresponse = [\"0\", \"1\", \"2\", \"3\", \"4\", \"5\"]\nnext = [\"4\", \"5\", \"0\", \"1\", \"2\", \"3\"]\n[[operation]]\nname = \"fetch_add5\"\nresponse = [\"0\", \"1\", \"2\", \"3\", \"4\", \"5\"]\nnext = [\"5\", \"0\", \"1\", \"2\", \"3\", \"4\"]\n"
@@ -1380,7 +1380,7 @@ Cnum.examples = [
    {
     "path": "catalogue/fetch_add_mod7",
     "about": {
-     "en": "A counter modulo 7 to which any number from 1 to 6 is added, with the count before it as the answer. Additions commute, so a third process cannot tell who was first. Two additions of 1 to 0 are answered 0 and 1: the number is 2. Literature: 2, for a counter without bound (Herlihy 1991).",
+     "en": "A counter modulo 7 to which any number from 1 to 6 is added, with the count before it as the answer. Additions commute, so a third process does not learn who was first. Two additions of 1 to 0 are answered 0 and 1: the number is 2. Literature: 2, for a counter without bound (Herlihy 1991).",
      "de": "Ein Zähler modulo 7, zu dem jede kleinere Zahl ab 1 addiert wird, mit dem Stand davor als Antwort. Additionen vertauschen, also erfährt ein dritter Prozess nicht, wer der erste war. Zwei Additionen von 1 zu 0 bekommen 0 und 1 zur Antwort: die Zahl ist 2. Literatur: 2, für einen Zähler ohne Grenze (Herlihy 1991)."
     },
     "text": "# A counter modulo 7 to which any number from 1 to 6 is added, with the count before it as the answer.\n# Fetch-and-add: Herlihy 1991.\nname = \"fetch_add_mod7\"\nstates = [\"0\", \"1\", \"2\", \"3\", \"4\", \"5\", \"6\"]\nresponses = [\"0\", \"1\", \"2\", \"3\", \"4\", \"5\", \"6\"]\n[[operation]]\nname = \"fetch_add1\"\nresponse = [\"0\", \"1\", \"2\", \"3\", \"4\", \"5\", \"6\"]\nnext = [\"1\", \"2\", \"3\", \"4\", \"5\", \"6\", \"0\"]\n[[operation]]\nname = \"fetch_add2\"\nresponse = [\"0\", \"1\", \"2\", \"3\", \"4\", \"5\", \"6\"]\nnext = [\"2\", \"3\", \"4\", \"5\", \"6\", \"0\", \"1\"]\n[[operation]]\nname = \"fetch_add3\"\nresponse = [\"0\", \"1\", \"2\", \"3\", \"4\", \"5\", \"6\"]\nnext = [\"3\", \"4\", \"5\", \"6\", \"0\", \"1\", \"2\"]\n[[operation]]\nname = \"fetch_add4\"\nresponse = [\"0\", \"1\", \"2\", \"3\", \"4\", \"5\", \"6\"]\nnext = [\"4\", \"5\", \"6\", \"0\", \"1\", \"2\", \"3\"]\n[[operation]]\nname = \"fetch_add5\"\nresponse = [\"0\", \"1\", \"2\", \"3\", \"4\", \"5\", \"6\"]\nnext = [\"5\", \"6\", \"0\", \"1\", \"2\", \"3\", \"4\"]\n[[operation]]\nname = \"fetch_add6\"\nresponse = [\"0\", \"1\", \"2\", \"3\", \"4\", \"5\", \"6\"]\nnext = [\"6\", \"0\", \"1\", \"2\", \"3\", \"4\", \"5\"]\n"
@@ -1388,7 +1388,7 @@ Cnum.examples = [
    {
     "path": "catalogue/fetch_add_mod8",
     "about": {
-     "en": "A counter modulo 8 to which any number from 1 to 7 is added, with the count before it as the answer. Additions commute, so a third process cannot tell who was first. Two additions of 1 to 0 are answered 0 and 1: the number is 2. Literature: 2, for a counter without bound (Herlihy 1991).",
+     "en": "A counter modulo 8 to which any number from 1 to 7 is added, with the count before it as the answer. Additions commute, so a third process does not learn who was first. Two additions of 1 to 0 are answered 0 and 1: the number is 2. Literature: 2, for a counter without bound (Herlihy 1991).",
      "de": "Ein Zähler modulo 8, zu dem jede kleinere Zahl ab 1 addiert wird, mit dem Stand davor als Antwort. Additionen vertauschen, also erfährt ein dritter Prozess nicht, wer der erste war. Zwei Additionen von 1 zu 0 bekommen 0 und 1 zur Antwort: die Zahl ist 2. Literatur: 2, für einen Zähler ohne Grenze (Herlihy 1991)."
     },
     "used": [
@@ -1414,7 +1414,7 @@ Cnum.examples = [
    {
     "path": "catalogue/fetch_add_mod9",
     "about": {
-     "en": "A counter modulo 9 to which any number from 1 to 8 is added, with the count before it as the answer. Additions commute, so a third process cannot tell who was first. Two additions of 1 to 0 are answered 0 and 1: the number is 2. Literature: 2, for a counter without bound (Herlihy 1991).",
+     "en": "A counter modulo 9 to which any number from 1 to 8 is added, with the count before it as the answer. Additions commute, so a third process does not learn who was first. Two additions of 1 to 0 are answered 0 and 1: the number is 2. Literature: 2, for a counter without bound (Herlihy 1991).",
      "de": "Ein Zähler modulo 9, zu dem jede kleinere Zahl ab 1 addiert wird, mit dem Stand davor als Antwort. Additionen vertauschen, also erfährt ein dritter Prozess nicht, wer der erste war. Zwei Additionen von 1 zu 0 bekommen 0 und 1 zur Antwort: die Zahl ist 2. Literatur: 2, für einen Zähler ohne Grenze (Herlihy 1991)."
     },
     "text": "# A counter modulo 9 to which any number from 1 to 8 is added, with the count before it as the answer.\n# Fetch-and-add: Herlihy 1991.\nname = \"fetch_add_mod9\"\nstates = [\"0\", \"1\", \"2\", \"3\", \"4\", \"5\", \"6\", \"7\", \"8\"]\nresponses = [\"0\", \"1\", \"2\", \"3\", \"4\", \"5\", \"6\", \"7\", \"8\"]\n[[operation]]\nname = \"fetch_add1\"\nresponse = [\"0\", \"1\", \"2\", \"3\", \"4\", \"5\", \"6\", \"7\", \"8\"]\nnext = [\"1\", \"2\", \"3\", \"4\", \"5\", \"6\", \"7\", \"8\", \"0\"]\n[[operation]]\nname = \"fetch_add2\"\nresponse = [\"0\", \"1\", \"2\", \"3\", \"4\", \"5\", \"6\", \"7\", \"8\"]\nnext = [\"2\", \"3\", \"4\", \"5\", \"6\", \"7\", \"8\", \"0\", \"1\"]\n[[operation]]\nname = \"fetch_add3\"\nresponse = [\"0\", \"1\", \"2\", \"3\", \"4\", \"5\", \"6\", \"7\", \"8\"]\nnext = [\"3\", \"4\", \"5\", \"6\", \"7\", \"8\", \"0\", \"1\", \"2\"]\n[[operation]]\nname = \"fetch_add4\"\nresponse = [\"0\", \"1\", \"2\", \"3\", \"4\", \"5\", \"6\", \"7\", \"8\"]\nnext = [\"4\", \"5\", \"6\", \"7\", \"8\", \"0\", \"1\", \"2\", \"3\"]\n[[operation]]\nname = \"fetch_add5\"\nresponse = [\"0\", \"1\", \"2\", \"3\", \"4\", \"5\", \"6\", \"7\", \"8\"]\nnext = [\"5\", \"6\", \"7\", \"8\", \"0\", \"1\", \"2\", \"3\", \"4\"]\n[[operation]]\nname = \"fetch_add6\"\nresponse = [\"0\", \"1\", \"2\", \"3\", \"4\", \"5\", \"6\", \"7\", \"8\"]\nnext = [\"6\", \"7\", \"8\", \"0\", \"1\", \"2\", \"3\", \"4\", \"5\"]\n[[operation]]\nname = \"fetch_add7\"\nresponse = [\"0\", \"1\", \"2\", \"3\", \"4\", \"5\", \"6\", \"7\", \"8\"]\nnext = [\"7\", \"8\", \"0\", \"1\", \"2\", \"3\", \"4\", \"5\", \"6\"]\n[[operation]]\nname = \"fetch_add8\"\nresponse = [\"0\", \"1\", \"2\", \"3\", \"4\", \"5\", \"6\", \"7\", \"8\"]\nnext = [\"8\", \"0\", \"1\", \"2\", \"3\", \"4\", \"5\", \"6\", \"7\"]\n"
