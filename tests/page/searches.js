@@ -94,7 +94,7 @@ describe('what is said of examples', () => {
                 assert.ok(said[code].length > 40 && said[code].endsWith('.'), example);
                 assert.deepEqual(LEANING.filter(it => said[code].includes(it)), [], example);
             }
-            assert.deepEqual(Cnum.examples.filter(it => !it.name[code]), []);
+            assert.deepEqual(Cnum.examples.filter(it => !it.names[code]), []);
         });
     }
 
@@ -102,6 +102,7 @@ describe('what is said of examples', () => {
         const [{ about }] = examples;
         Cnum.useLanguage('de');
         assert.ok(about.startsWith('A bit') && examples[0].about.startsWith('Ein Bit'));
+        assert.equal(Cnum.examples[1].name, 'Zahl 1');
         Cnum.useLanguage();
         assert.equal(examples[0].about, about);
     });

@@ -12,10 +12,15 @@ var Cnum = globalThis.Cnum || {};
     const nameOf = path => path.split('/').pop();
     const inLanguage = said => said[Cnum.language] || said[Cnum.FIRST_LANGUAGE];
 
-    // What is said of an example, in the language of the reader; and in all of them.
-    for (const it of Cnum.examples.flatMap(({ types }) => types)) {
-        it.said = it.about;
-        Object.defineProperty(it, 'about', { get: () => inLanguage(it.said) });
+    // From now on a text of this key is in the language of the reader; all its languages stand under another key.
+    function translate(it, key, all) {
+        it[all] = it[key];
+        Object.defineProperty(it, key, { get: () => inLanguage(it[all]) });
+    }
+
+    for (const group of Cnum.examples) {
+        translate(group, 'name', 'names');
+        for (const example of group.types) translate(example, 'about', 'said');
     }
 
     // The words of engineers, each with the names of the examples that it finds, the best first.
@@ -25,11 +30,12 @@ var Cnum = globalThis.Cnum || {};
     // table, which say what it is and where it is from, the instructions and calls that it stands for, and the words of engineers.
     Cnum.exampleIndex = function () {
         const remarks = text => text.split('\n').filter(it => it.startsWith('#'));
-        return Cnum.examples.flatMap(({ name: group, types }) =>
-            types.map(example => {
+        return Cnum.examples.flatMap(group =>
+            group.types.map(example => {
                 const name = nameOf(example.path);
                 const words = [...WORDS.keys()].filter(it => WORDS.get(it).includes(name));
-                const texts = [name, ...Object.values(group), ...Object.values(example.said), ...remarks(example.text), ...(example.used || []), ...words];
+                const said = [...Object.values(group.names), ...Object.values(example.said), ...remarks(example.text)];
+                const texts = [name, ...said, ...(example.used || []), ...words];
                 return { path: example.path, name, group, example, words: plain(texts.join(' ')) };
             }),
         );
@@ -157,7 +163,7 @@ var Cnum = globalThis.Cnum || {};
             const parts = [
                 element('strong', {}, name),
                 ...(numbers ? [` ${Cnum.numbersText(numbers)}`] : []),
-                element('span', { class: 'group' }, inLanguage(group)),
+                element('span', { class: 'group' }, group.name),
                 element('span', { class: 'about' }, example.about),
             ];
             return element('li', { role: 'option', id: `example-${place}`, 'data-path': path }, ...parts);
