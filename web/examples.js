@@ -410,8 +410,8 @@ Cnum.examples = [
    {
     "path": "catalogue/fetch_max_4",
     "about": {
-     "en": "A register of 4 values that keeps the greater of its value and one given, with the value before as the answer. Literature: 2 by the theorem of Herlihy 1991. The operations commute.",
-     "de": "Ein Register von 4 Werten, das den größeren von seinem und dem gegebenen Wert behält, mit dem Wert davor als Antwort. Literatur: 2 nach dem Satz von Herlihy 1991. Je zwei Operationen vertauschen."
+     "en": "A register of 4 values that keeps the greater of its value and one given, with the value before as the answer. Literature: 2 by the theorem of Herlihy 1991. The operations commute. Two calls of fetch_max1 from 0 are answered 0 and 1.",
+     "de": "Ein Register von 4 Werten, das den größeren von seinem und dem gegebenen Wert behält, mit dem Wert davor als Antwort. Literatur: 2 nach dem Satz von Herlihy 1991. Je zwei Operationen vertauschen. Zwei Aufrufe von fetch_max1 ab 0 bekommen 0 und 1 zur Antwort."
     },
     "used": [
      "LDUMAX",
@@ -422,13 +422,13 @@ Cnum.examples = [
      "atomicMax",
      "fetch_max"
     ],
-    "text": "# A register of 4 values that keeps the greater of its value and one given, with the value before as the answer.\n# Read-modify-write operations that commute: Herlihy 1991.\nname = \"fetch_max_4\"\nstates = [\"0\", \"1\", \"2\", \"3\"]\nresponses = [\"0\", \"1\", \"2\", \"3\"]\n[[operation]]\nname = \"fetch_max1\"\nresponse = [\"0\", \"1\", \"2\", \"3\"]\nnext = [\"1\", \"1\", \"2\", \"3\"]\n[[operation]]\nname = \"fetch_max2\"\nresponse = [\"0\", \"1\", \"2\", \"3\"]\nnext = [\"2\", \"2\", \"2\", \"3\"]\n[[operation]]\nname = \"fetch_max3\"\nresponse = [\"0\", \"1\", \"2\", \"3\"]\nnext = [\"3\", \"3\", \"3\", \"3\"]\n"
+    "text": "# A register of 4 values that keeps the greater of its value and one given, with the value before as the answer.\n# fetch_max of Rust, atomicMax of CUDA, AMOMAX of RISC-V: operations that commute, Herlihy 1991.\nname = \"fetch_max_4\"\nstates = [\"0\", \"1\", \"2\", \"3\"]\nresponses = [\"0\", \"1\", \"2\", \"3\"]\n[[operation]]\nname = \"fetch_max1\"\nresponse = [\"0\", \"1\", \"2\", \"3\"]\nnext = [\"1\", \"1\", \"2\", \"3\"]\n[[operation]]\nname = \"fetch_max2\"\nresponse = [\"0\", \"1\", \"2\", \"3\"]\nnext = [\"2\", \"2\", \"2\", \"3\"]\n[[operation]]\nname = \"fetch_max3\"\nresponse = [\"0\", \"1\", \"2\", \"3\"]\nnext = [\"3\", \"3\", \"3\", \"3\"]\n"
    },
    {
     "path": "catalogue/fetch_min_4",
     "about": {
-     "en": "A register of 4 values that keeps the lesser of its value and one given, with the value before as the answer. Literature: 2 by the theorem of Herlihy 1991. The operations commute.",
-     "de": "Ein Register von 4 Werten, das den kleineren von seinem und dem gegebenen Wert behält, mit dem Wert davor als Antwort. Literatur: 2 nach dem Satz von Herlihy 1991. Je zwei Operationen vertauschen."
+     "en": "A register of 4 values that keeps the lesser of its value and one given, with the value before as the answer. Literature: 2 by the theorem of Herlihy 1991. The operations commute. Two calls of fetch_min0 from 3 are answered 3 and 0.",
+     "de": "Ein Register von 4 Werten, das den kleineren von seinem und dem gegebenen Wert behält, mit dem Wert davor als Antwort. Literatur: 2 nach dem Satz von Herlihy 1991. Je zwei Operationen vertauschen. Zwei Aufrufe von fetch_min0 ab 3 bekommen 3 und 0 zur Antwort."
     },
     "used": [
      "LDUMIN",
@@ -439,7 +439,7 @@ Cnum.examples = [
      "atomicMin",
      "fetch_min"
     ],
-    "text": "# A register of 4 values that keeps the lesser of its value and one given, with the value before as the answer.\n# Read-modify-write operations that commute: Herlihy 1991.\nname = \"fetch_min_4\"\nstates = [\"3\", \"2\", \"1\", \"0\"]\nresponses = [\"3\", \"2\", \"1\", \"0\"]\n[[operation]]\nname = \"fetch_min0\"\nresponse = [\"3\", \"2\", \"1\", \"0\"]\nnext = [\"0\", \"0\", \"0\", \"0\"]\n[[operation]]\nname = \"fetch_min1\"\nresponse = [\"3\", \"2\", \"1\", \"0\"]\nnext = [\"1\", \"1\", \"1\", \"0\"]\n[[operation]]\nname = \"fetch_min2\"\nresponse = [\"3\", \"2\", \"1\", \"0\"]\nnext = [\"2\", \"2\", \"1\", \"0\"]\n"
+    "text": "# A register of 4 values that keeps the lesser of its value and one given, with the value before as the answer.\n# fetch_min of Rust, atomicMin of CUDA, AMOMIN of RISC-V: operations that commute, Herlihy 1991.\nname = \"fetch_min_4\"\nstates = [\"3\", \"2\", \"1\", \"0\"]\nresponses = [\"3\", \"2\", \"1\", \"0\"]\n[[operation]]\nname = \"fetch_min0\"\nresponse = [\"3\", \"2\", \"1\", \"0\"]\nnext = [\"0\", \"0\", \"0\", \"0\"]\n[[operation]]\nname = \"fetch_min1\"\nresponse = [\"3\", \"2\", \"1\", \"0\"]\nnext = [\"1\", \"1\", \"1\", \"0\"]\n[[operation]]\nname = \"fetch_min2\"\nresponse = [\"3\", \"2\", \"1\", \"0\"]\nnext = [\"2\", \"2\", \"1\", \"0\"]\n"
    },
    {
     "path": "catalogue/set_add_remove_1",
