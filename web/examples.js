@@ -111,17 +111,24 @@ Cnum.examples = [
      "de": "Ein Register von 4 Werten, das gelesen und geschrieben wird. Literatur: 1 (Herlihy 1991; Loui and Abu-Amara 1987). Wer schreibt, löscht aus, was vorher war, und bekommt nichts zur Antwort: er erfährt nicht, ob er allein war."
     },
     "used": [
+     "x86",
      "MOV",
+     "ARM with LSE",
      "LDR",
      "STR",
+     "RISC-V: A and Zacas",
      "LW",
      "SW",
+     "PTX and CUDA",
      "ld",
      "st",
+     "Rust",
      "load",
      "store",
+     "C11, C++ and POSIX",
      "atomic_load",
      "atomic_store",
+     "Java",
      "get",
      "set"
     ],
@@ -150,7 +157,9 @@ Cnum.examples = [
      "de": "Ein Register von 4 Werten, das den größten geschriebenen Wert behält. Literatur: 1, denn man kann es aus Registern bauen (Aspnes, Attiya and Censor 2009). Je zwei Operationen vertauschen, und niemand bekommt etwas zur Antwort."
     },
     "used": [
+     "ARM with LSE",
      "STUMAX",
+     "PTX and CUDA",
      "red.max"
     ],
     "text": "# A register of 4 values that keeps the greatest value written.\n# Max register: Aspnes, Attiya and Censor 2009.\nname = \"max_register_4\"\nstates = [\"0\", \"1\", \"2\", \"3\"]\nresponses = [\"ok\"]\n[[operation]]\nname = \"writemax1\"\nresponse = [\"ok\", \"ok\", \"ok\", \"ok\"]\nnext = [\"1\", \"1\", \"2\", \"3\"]\n[[operation]]\nname = \"writemax2\"\nresponse = [\"ok\", \"ok\", \"ok\", \"ok\"]\nnext = [\"2\", \"2\", \"2\", \"3\"]\n[[operation]]\nname = \"writemax3\"\nresponse = [\"ok\", \"ok\", \"ok\", \"ok\"]\nnext = [\"3\", \"3\", \"3\", \"3\"]\n"
@@ -162,7 +171,9 @@ Cnum.examples = [
      "de": "Ein Register von 4 Werten, das den kleinsten geschriebenen Wert behält. Keine Veröffentlichung bekannt. Je zwei Operationen vertauschen, und niemand bekommt etwas zur Antwort."
     },
     "used": [
+     "ARM with LSE",
      "STUMIN",
+     "PTX and CUDA",
      "red.min"
     ],
     "text": "# A register of 4 values that keeps the least value written.\n# The max register turned round; no publication known.\nname = \"min_register_4\"\nstates = [\"3\", \"2\", \"1\", \"0\"]\nresponses = [\"ok\"]\n[[operation]]\nname = \"writemin0\"\nresponse = [\"ok\", \"ok\", \"ok\", \"ok\"]\nnext = [\"0\", \"0\", \"0\", \"0\"]\n[[operation]]\nname = \"writemin1\"\nresponse = [\"ok\", \"ok\", \"ok\", \"ok\"]\nnext = [\"1\", \"1\", \"1\", \"0\"]\n[[operation]]\nname = \"writemin2\"\nresponse = [\"ok\", \"ok\", \"ok\", \"ok\"]\nnext = [\"2\", \"2\", \"1\", \"0\"]\n"
@@ -174,8 +185,11 @@ Cnum.examples = [
      "de": "Ein Zähler modulo 4, der beim Erhöhen nichts antwortet. Literatur: 1, denn man kann ihn aus Registern bauen (Aspnes and Herlihy 1990). Zwei Erhöhungen vertauschen, und niemand bekommt etwas zur Antwort."
     },
     "used": [
+     "ARM with LSE",
      "STADD",
+     "PTX and CUDA",
      "red.add",
+     "Java",
      "LongAdder.increment"
     ],
     "text": "# A counter modulo 4 whose increment answers nothing.\n# Aspnes and Herlihy 1990.\nname = \"counter_read_mod4\"\nstates = [\"0\", \"1\", \"2\", \"3\"]\nresponses = [\"ok\"]\n[[operation]]\nname = \"inc\"\nresponse = [\"ok\", \"ok\", \"ok\", \"ok\"]\nnext = [\"1\", \"2\", \"3\", \"0\"]\n"
@@ -211,6 +225,7 @@ Cnum.examples = [
      "de": "Test-and-set mit einem Zurücksetzen, das nichts antwortet. Literatur: 2 nach dem Satz von Herlihy 1991. Jede der zwei Operationen löscht aus, was vorher war."
     },
     "used": [
+     "C11, C++ and POSIX",
      "atomic_flag_test_and_set",
      "atomic_flag_clear"
     ],
@@ -223,8 +238,11 @@ Cnum.examples = [
      "de": "Eine Sperre, die man ohne Warten zu nehmen versucht und zurückgibt. Literatur: 2 nach dem Satz von Herlihy 1991. Es ist Test-and-set mit einem Zurücksetzen: jede der zwei Operationen löscht aus, was vorher war."
     },
     "used": [
+     "Rust",
      "Mutex::try_lock",
+     "C11, C++ and POSIX",
      "pthread_mutex_trylock",
+     "Java",
      "tryLock",
      "unlock"
     ],
@@ -269,13 +287,20 @@ Cnum.examples = [
      "de": "Ein Register von 4 Werten, dessen Schreiben mit dem Wert davor antwortet. Literatur: 2 (Herlihy 1991). Ab 0 bekommen zwei Aufrufe von swap1 die Antworten 0 und 1; jede Operation löscht aus, was vorher war."
     },
     "used": [
+     "x86",
      "XCHG",
+     "ARM with LSE",
      "SWP",
+     "RISC-V: A and Zacas",
      "AMOSWAP",
+     "PTX and CUDA",
      "atom.exch",
      "atomicExch",
+     "Rust",
      "swap",
+     "C11, C++ and POSIX",
      "atomic_exchange",
+     "Java",
      "getAndSet"
     ],
     "text": "# A register of 4 values whose write answers with the value before it.\n# Swap: Herlihy 1991.\nname = \"swap_4\"\nstates = [\"0\", \"1\", \"2\", \"3\"]\nresponses = [\"0\", \"1\", \"2\", \"3\"]\n[[operation]]\nname = \"swap0\"\nresponse = [\"0\", \"1\", \"2\", \"3\"]\nnext = [\"0\", \"0\", \"0\", \"0\"]\n[[operation]]\nname = \"swap1\"\nresponse = [\"0\", \"1\", \"2\", \"3\"]\nnext = [\"1\", \"1\", \"1\", \"1\"]\n[[operation]]\nname = \"swap2\"\nresponse = [\"0\", \"1\", \"2\", \"3\"]\nnext = [\"2\", \"2\", \"2\", \"2\"]\n[[operation]]\nname = \"swap3\"\nresponse = [\"0\", \"1\", \"2\", \"3\"]\nnext = [\"3\", \"3\", \"3\", \"3\"]\n"
@@ -295,10 +320,13 @@ Cnum.examples = [
      "de": "Ein Zähler von 0 bis 3, zu dem 1 oder 2 addiert wird, modulo 4, mit dem Stand davor als Antwort. Literatur: 2 (Herlihy 1991). Additionen vertauschen. Zwei Aufrufe von add1 ab 0 bekommen 0 und 1 zur Antwort."
     },
     "used": [
+     "Rust",
      "fetch_add",
      "fetch_sub",
+     "C11, C++ and POSIX",
      "atomic_fetch_add",
      "atomic_fetch_sub",
+     "Java",
      "getAndAdd",
      "incrementAndGet"
     ],
@@ -311,6 +339,7 @@ Cnum.examples = [
      "de": "Ein Zähler von 0 bis 3, zu dem bis 3 hin 1 oder 2 addiert wird, mit dem Stand davor als Antwort. Literatur: 2 nach dem Satz von Herlihy 1991. Additionen, die bei 3 enden, vertauschen. Zwei Aufrufe von add1 ab 0 bekommen 0 und 1 zur Antwort."
     },
     "used": [
+     "Rust",
      "fetch_update",
      "saturating_add"
     ],
@@ -355,12 +384,18 @@ Cnum.examples = [
      "de": "Zwei Bits, von denen einige in einem Schritt gesetzt werden, mit den Bits davor als Antwort. Literatur: 2 nach dem Satz von Herlihy 1991. Je zwei Operationen vertauschen."
     },
     "used": [
+     "ARM with LSE",
      "LDSET",
+     "RISC-V: A and Zacas",
      "AMOOR",
+     "PTX and CUDA",
      "atom.or",
      "atomicOr",
+     "Rust",
      "fetch_or",
+     "C11, C++ and POSIX",
      "atomic_fetch_or",
+     "Java",
      "getAndBitwiseOr"
     ],
     "text": "# Two bits, of which some are set at once, with the bits before as the answer.\n# Fetch-and-or, operations that commute: Herlihy 1991.\nname = \"fetch_or_2bit\"\nstates = [\"b00\", \"b01\", \"b10\", \"b11\"]\nresponses = [\"b00\", \"b01\", \"b10\", \"b11\"]\n[[operation]]\nname = \"or01\"\nresponse = [\"b00\", \"b01\", \"b10\", \"b11\"]\nnext = [\"b01\", \"b01\", \"b11\", \"b11\"]\n[[operation]]\nname = \"or10\"\nresponse = [\"b00\", \"b01\", \"b10\", \"b11\"]\nnext = [\"b10\", \"b11\", \"b10\", \"b11\"]\n[[operation]]\nname = \"or11\"\nresponse = [\"b00\", \"b01\", \"b10\", \"b11\"]\nnext = [\"b11\", \"b11\", \"b11\", \"b11\"]\n"
@@ -372,12 +407,18 @@ Cnum.examples = [
      "de": "Zwei Bits, von denen einige in einem Schritt gelöscht werden, mit den Bits davor als Antwort. Literatur: 2 nach dem Satz von Herlihy 1991. Je zwei Operationen vertauschen."
     },
     "used": [
+     "ARM with LSE",
      "LDCLR",
+     "RISC-V: A and Zacas",
      "AMOAND",
+     "PTX and CUDA",
      "atom.and",
      "atomicAnd",
+     "Rust",
      "fetch_and",
+     "C11, C++ and POSIX",
      "atomic_fetch_and",
+     "Java",
      "getAndBitwiseAnd"
     ],
     "text": "# Two bits, of which some are cleared at once, with the bits before as the answer.\n# Fetch-and-and, operations that commute: Herlihy 1991.\nname = \"fetch_and_2bit\"\nstates = [\"b11\", \"b10\", \"b01\", \"b00\"]\nresponses = [\"b11\", \"b10\", \"b01\", \"b00\"]\n[[operation]]\nname = \"and00\"\nresponse = [\"b11\", \"b10\", \"b01\", \"b00\"]\nnext = [\"b00\", \"b00\", \"b00\", \"b00\"]\n[[operation]]\nname = \"and01\"\nresponse = [\"b11\", \"b10\", \"b01\", \"b00\"]\nnext = [\"b01\", \"b00\", \"b01\", \"b00\"]\n[[operation]]\nname = \"and10\"\nresponse = [\"b11\", \"b10\", \"b01\", \"b00\"]\nnext = [\"b10\", \"b10\", \"b00\", \"b00\"]\n"
@@ -389,12 +430,18 @@ Cnum.examples = [
      "de": "Zwei Bits, von denen einige in einem Schritt umgekehrt werden, mit den Bits davor als Antwort. Literatur: 2 nach dem Satz von Herlihy 1991. Je zwei Operationen vertauschen."
     },
     "used": [
+     "ARM with LSE",
      "LDEOR",
+     "RISC-V: A and Zacas",
      "AMOXOR",
+     "PTX and CUDA",
      "atom.xor",
      "atomicXor",
+     "Rust",
      "fetch_xor",
+     "C11, C++ and POSIX",
      "atomic_fetch_xor",
+     "Java",
      "getAndBitwiseXor"
     ],
     "text": "# Two bits, of which some are turned over at once, with the bits before as the answer.\n# Fetch-and-xor, operations that commute: Herlihy 1991.\nname = \"fetch_xor_2bit\"\nstates = [\"b00\", \"b01\", \"b10\", \"b11\"]\nresponses = [\"b00\", \"b01\", \"b10\", \"b11\"]\n[[operation]]\nname = \"xor01\"\nresponse = [\"b00\", \"b01\", \"b10\", \"b11\"]\nnext = [\"b01\", \"b00\", \"b11\", \"b10\"]\n[[operation]]\nname = \"xor10\"\nresponse = [\"b00\", \"b01\", \"b10\", \"b11\"]\nnext = [\"b10\", \"b11\", \"b00\", \"b01\"]\n[[operation]]\nname = \"xor11\"\nresponse = [\"b00\", \"b01\", \"b10\", \"b11\"]\nnext = [\"b11\", \"b10\", \"b01\", \"b00\"]\n"
@@ -414,12 +461,16 @@ Cnum.examples = [
      "de": "Ein Register von 4 Werten, das den größeren von seinem und dem gegebenen Wert behält, mit dem Wert davor als Antwort. Literatur: 2 nach dem Satz von Herlihy 1991. Je zwei Operationen vertauschen. Zwei Aufrufe von fetch_max1 ab 0 bekommen 0 und 1 zur Antwort."
     },
     "used": [
+     "ARM with LSE",
      "LDUMAX",
      "LDSMAX",
+     "RISC-V: A and Zacas",
      "AMOMAX",
      "AMOMAXU",
+     "PTX and CUDA",
      "atom.max",
      "atomicMax",
+     "Rust",
      "fetch_max"
     ],
     "text": "# A register of 4 values that keeps the greater of its value and one given, with the value before as the answer.\n# fetch_max of Rust, atomicMax of CUDA, AMOMAX of RISC-V: operations that commute, Herlihy 1991.\nname = \"fetch_max_4\"\nstates = [\"0\", \"1\", \"2\", \"3\"]\nresponses = [\"0\", \"1\", \"2\", \"3\"]\n[[operation]]\nname = \"fetch_max1\"\nresponse = [\"0\", \"1\", \"2\", \"3\"]\nnext = [\"1\", \"1\", \"2\", \"3\"]\n[[operation]]\nname = \"fetch_max2\"\nresponse = [\"0\", \"1\", \"2\", \"3\"]\nnext = [\"2\", \"2\", \"2\", \"3\"]\n[[operation]]\nname = \"fetch_max3\"\nresponse = [\"0\", \"1\", \"2\", \"3\"]\nnext = [\"3\", \"3\", \"3\", \"3\"]\n"
@@ -431,12 +482,16 @@ Cnum.examples = [
      "de": "Ein Register von 4 Werten, das den kleineren von seinem und dem gegebenen Wert behält, mit dem Wert davor als Antwort. Literatur: 2 nach dem Satz von Herlihy 1991. Je zwei Operationen vertauschen. Zwei Aufrufe von fetch_min0 ab 3 bekommen 3 und 0 zur Antwort."
     },
     "used": [
+     "ARM with LSE",
      "LDUMIN",
      "LDSMIN",
+     "RISC-V: A and Zacas",
      "AMOMIN",
      "AMOMINU",
+     "PTX and CUDA",
      "atom.min",
      "atomicMin",
+     "Rust",
      "fetch_min"
     ],
     "text": "# A register of 4 values that keeps the lesser of its value and one given, with the value before as the answer.\n# fetch_min of Rust, atomicMin of CUDA, AMOMIN of RISC-V: operations that commute, Herlihy 1991.\nname = \"fetch_min_4\"\nstates = [\"3\", \"2\", \"1\", \"0\"]\nresponses = [\"3\", \"2\", \"1\", \"0\"]\n[[operation]]\nname = \"fetch_min0\"\nresponse = [\"3\", \"2\", \"1\", \"0\"]\nnext = [\"0\", \"0\", \"0\", \"0\"]\n[[operation]]\nname = \"fetch_min1\"\nresponse = [\"3\", \"2\", \"1\", \"0\"]\nnext = [\"1\", \"1\", \"1\", \"0\"]\n[[operation]]\nname = \"fetch_min2\"\nresponse = [\"3\", \"2\", \"1\", \"0\"]\nnext = [\"2\", \"2\", \"1\", \"0\"]\n"
@@ -488,8 +543,10 @@ Cnum.examples = [
      "de": "Ein Semaphor mit 3 Einheiten: eine wird zurückgegeben oder ohne Warten genommen, und die Antwort sagt, ob es eine gab. Literatur: 2 nach dem Satz von Herlihy 1991. Zwischen den Grenzen vertauschen die Operationen, und an einer Grenze tut eine von ihnen nichts. Ab 1 bekommt von zweien nur der erste die Einheit."
     },
     "used": [
+     "C11, C++ and POSIX",
      "sem_trywait",
      "sem_post",
+     "Java",
      "tryAcquire()",
      "release()",
      "Semaphore"
@@ -511,6 +568,7 @@ Cnum.examples = [
      "de": "Ein Zähler von 0 bis 3, der von 0 bis 2 und dann auf 0 geht, oder von 2 bis 0 und dann auf 2, mit dem Stand davor als Antwort. Literatur: 2 nach dem Satz von Herlihy 1991. Von 0 bis 2 hebt eine Operation die andere auf, also vertauschen sie. Bei 3, jenseits der Grenze, löscht jede die andere aus."
     },
     "used": [
+     "PTX and CUDA",
      "atom.inc",
      "atom.dec",
      "atomicInc",
@@ -541,6 +599,7 @@ Cnum.examples = [
      "de": "Ein Zähler von 0 bis 3, der von 0 bis 2 und dann auf 0 geht, oder von 3 bis 0 und dann auf 3, mit dem Stand davor als Antwort. Keine Veröffentlichung bekannt. Ab 2 geht inc2 auf 0, und dec3 auf 1: ein inc2 und zwei dec3 erkennen, wer der erste war. Vier Prozesse können es nicht, wie catalogue/README.md zeigt. Mit derselben Grenze für beide ist die Zahl 2."
     },
     "used": [
+     "PTX and CUDA",
      "atom.inc",
      "atom.dec"
     ],
@@ -553,6 +612,7 @@ Cnum.examples = [
      "de": "Drei Bits, die zum Gegenteil ihres Und mit einer Maske werden, mit den Bits davor als Antwort, mit 2 seiner 8 Operationen. Keine Veröffentlichung bekannt. Ab 001 ein nand110 gegen drei nand011: jede Operation kehrt zwei Bits um und setzt ein drittes, das die andere umkehrt, also stören sie sich nicht. Fünf Prozesse können nicht erkennen, wer der erste war, wie catalogue/README.md zeigt."
     },
     "used": [
+     "Rust",
      "fetch_nand"
     ],
     "text": "# Three bits, which become the complement of their and with a mask, with the bits before as the answer, with 2 of its 8 operations.\n# fetch_nand of Rust and of GCC's __atomic_fetch_nand; no publication known.\nname = \"fetch_nand_3bit\"\nstates = [\"b000\", \"b001\", \"b010\", \"b011\", \"b100\", \"b101\", \"b110\", \"b111\"]\nresponses = [\"b000\", \"b001\", \"b010\", \"b011\", \"b100\", \"b101\", \"b110\", \"b111\"]\n[[operation]]\nname = \"nand110\"\nresponse = [\"b000\", \"b001\", \"b010\", \"b011\", \"b100\", \"b101\", \"b110\", \"b111\"]\nnext = [\"b111\", \"b111\", \"b101\", \"b101\", \"b011\", \"b011\", \"b001\", \"b001\"]\n[[operation]]\nname = \"nand011\"\nresponse = [\"b000\", \"b001\", \"b010\", \"b011\", \"b100\", \"b101\", \"b110\", \"b111\"]\nnext = [\"b111\", \"b110\", \"b101\", \"b100\", \"b111\", \"b110\", \"b101\", \"b100\"]\n"
@@ -580,11 +640,15 @@ Cnum.examples = [
      "de": "Compare-and-swap auf zwei Wörtern von einem Bit zugleich, das antwortet, ob es getauscht hat, mit 8 seiner 12 Operationen. Literatur: unendlich für Compare-and-swap (Herlihy 1991). Ab 00 tut einer dcas00_01, die anderen dcas00_10: der erste Aufruf bestimmt beide Bits, die dann bleiben."
     },
     "used": [
+     "x86",
      "LOCK CMPXCHG8B",
      "CMPXCHG16B",
+     "ARM with LSE",
      "CASP",
+     "RISC-V: A and Zacas",
      "AMOCAS.Q",
      "AMOCAS.D",
+     "Java",
      "compareAndSet",
      "AtomicStampedReference"
     ],
@@ -605,6 +669,7 @@ Cnum.examples = [
      "de": "Ein Register von 3 Werten, das beschrieben wird, wenn es 0 ist, mit dem Wert davor als Antwort. Literatur: unendlich für Compare-and-swap, ab drei Werten (Herlihy 1991; Loui and Abu-Amara 1987). Ab 0 tut einer swap1, die anderen swap2: der erste Aufruf bestimmt den Wert, der dann bleibt und den jeder erfährt."
     },
     "used": [
+     "Java",
      "putIfAbsent"
     ],
     "text": "# A register of 3 values that is written if it is 0, with the value before as the answer.\n# Compare-and-swap from 0: Herlihy 1991; three values: Loui and Abu-Amara 1987.\nname = \"swap_if_zero\"\nstates = [\"0\", \"1\", \"2\"]\nresponses = [\"0\", \"1\", \"2\"]\n[[operation]]\nname = \"swap1\"\nresponse = [\"0\", \"1\", \"2\"]\nnext = [\"1\", \"1\", \"2\"]\n[[operation]]\nname = \"swap2\"\nresponse = [\"0\", \"1\", \"2\"]\nnext = [\"2\", \"1\", \"2\"]\n"
@@ -624,6 +689,7 @@ Cnum.examples = [
      "de": "Eine Zelle, die den ersten von zwei gesetzten Werten behält und nur antwortet, ob dieser Aufruf ihn gesetzt hat. Literatur: unendlich für das klebende Bit, das seinen Wert zeigt (Plotkin 1989). Der erste Wert bleibt, und get zeigt ihn. Mit set allein erfährt ein abgewiesener Aufruf den Wert nicht: die Zahl ohne Lesen ist 2."
     },
     "used": [
+     "Rust",
      "OnceLock::set"
     ],
     "text": "# A cell that keeps the first of two values set, and answers only whether this call set it.\n# set of Rust's OnceLock; sticky bit: Plotkin 1989.\nname = \"once_cell\"\nstates = [\"unset\", \"a\", \"b\"]\nresponses = [\"ok\", \"err\"]\n[[operation]]\nname = \"set_a\"\nresponse = [\"ok\", \"err\", \"err\"]\nnext = [\"a\", \"a\", \"b\"]\n[[operation]]\nname = \"set_b\"\nresponse = [\"ok\", \"err\", \"err\"]\nnext = [\"b\", \"a\", \"b\"]\n"
@@ -635,8 +701,10 @@ Cnum.examples = [
      "de": "Load-linked und Store-conditional auf einem Bit für zwei Prozesse, deren Verbindungen zum Zustand gehören. Literatur: unendlich (Herlihy 1993). Ab einem Zustand mit der Verbindung von Prozess 0 tut jeder sc0_0 oder sc0_1. Der erste hat Erfolg und löst die Verbindung, also bleibt sein Wert. Die Tabelle lässt jeden die Operationen von Prozess 0 tun. Bei einem Objekt, das zwei Aufrufer mit je eigenen Operationen teilen, ist die Zahl 2."
     },
     "used": [
+     "ARM with LSE",
      "LDXR",
      "STXR",
+     "RISC-V: A and Zacas",
      "LR",
      "SC"
     ],
@@ -665,6 +733,7 @@ Cnum.examples = [
      "de": "Eine Warteschlange für zwei Buchstaben mit Platz für 2, deren ganzer Inhalt gelesen werden kann. Literatur: 2 für die Warteschlange, unendlich für die, die ihren ältesten Eintrag zeigt (Herlihy 1991). Wer liest, sieht den ältesten Eintrag, den des ersten, denn was nicht passt, wird abgewiesen. Ohne Lesen sieht einen Eintrag nur, wer ihn nimmt."
     },
     "used": [
+     "Java",
      "offer",
      "poll"
     ],
@@ -685,6 +754,7 @@ Cnum.examples = [
      "de": "Eine Warteschlange für zwei Buchstaben mit Platz für 2 und einem Blick auf den ältesten Eintrag. Literatur: unendlich (Herlihy 1991). Der erste Eintrag bleibt zu sehen, solange niemand etwas nimmt."
     },
     "used": [
+     "Java",
      "offer",
      "poll",
      "peek"
@@ -698,6 +768,7 @@ Cnum.examples = [
      "de": "Ein Postfach für einen von zwei Buchstaben, das einen weiteren abweist. Literatur: 2 für die Warteschlange, unendlich für die, die ihren ältesten Eintrag zeigt (Herlihy 1991). Wer liest, sieht den Buchstaben des ersten: es ist eine Warteschlange mit Platz für einen. Ohne Lesen sieht ihn nur, wer ihn nimmt."
     },
     "used": [
+     "Rust",
      "try_send",
      "try_recv",
      "sync_channel"
@@ -783,6 +854,7 @@ Cnum.examples = [
      "de": "Ein Zähler von 0 bis 3, zu dem 1 oder 2 addiert wird, wenn es passt; die Antwort sagt, ob es passt, und den Stand davor. Keine Veröffentlichung bekannt. Ab 1 tut einer add1, die anderen add2: der Stand bleibt genau dann 2, wenn add1 zuerst kam; sonst ist er 3. Auch ein abgewiesener Aufruf erfährt den Stand, also braucht niemand zu lesen."
     },
     "used": [
+     "Rust",
      "fetch_update",
      "checked_add"
     ],
@@ -795,6 +867,7 @@ Cnum.examples = [
      "de": "Ein Semaphor mit 3 Einheiten: 1 oder 2 werden zurückgegeben oder auf einmal ohne Warten genommen, und die Antwort sagt, ob es so viele gab. Keine Veröffentlichung bekannt. Ab 2 Einheiten nimmt einer 1, die anderen nehmen 2: genau dann bleibt für immer eine übrig, wenn der eine zuerst kam. Ohne Lesen erkennen es einer, der 2 nimmt, und zwei, die 1 nehmen, und nicht mehr."
     },
     "used": [
+     "Java",
      "tryAcquire(1)",
      "tryAcquire(2)"
     ],
@@ -807,8 +880,10 @@ Cnum.examples = [
      "de": "Eine Sperre für Leser und Schreiber mit Platz für zwei Leser, die beide ohne Warten zu nehmen versuchen; niemand gibt sie zurück. Keine Veröffentlichung bekannt. Ein try_write gegen beliebig viele try_read: der Schreiber hat sie genau dann, wenn er zuerst kam. Ohne Lesen erkennen es ein Schreiber und zwei Leser; ein dritter Leser wird auf jeden Fall abgewiesen. Mit Platz für beliebig viele Leser gäbe es auch ohne Lesen keine größte Zahl."
     },
     "used": [
+     "Rust",
      "RwLock::try_read",
      "try_write",
+     "C11, C++ and POSIX",
      "pthread_rwlock_tryrdlock",
      "trywrlock"
     ],
@@ -821,9 +896,11 @@ Cnum.examples = [
      "de": "Der starke Zähler eines Arc, bis 3: drop antwortet, ob es das letzte war, upgrade, ob es noch eines gibt. Keine Veröffentlichung bekannt. Ab 1 ein drop gegen beliebig viele upgrade: der Zähler bleibt genau dann 0, wenn drop zuerst kam, sonst ist er mindestens 1. Auch die Antworten sagen es. Nur der Besitzer tut drop, und nur wer einen Weak hat, tut upgrade."
     },
     "used": [
+     "Rust",
      "drop",
      "Arc",
      "Weak::upgrade",
+     "C11, C++ and POSIX",
      "shared_ptr",
      "weak_ptr::lock"
     ],
@@ -916,6 +993,7 @@ Cnum.examples = [
      "de": "4 Bits, zu denen 1 addiert wird oder von denen das unterste gelöscht wird, mit den Bits davor als Antwort. Keine Veröffentlichung bekannt. Ab 1 eine Addition gegen beliebig viele, die löschen: kommt die Addition zuerst, bleibt das Wort 2, sonst ist es 0 oder 1."
     },
     "used": [
+     "ARM with LSE",
      "LDADD",
      "LDCLR"
     ],
@@ -1040,6 +1118,7 @@ Cnum.examples = [
      "de": "4 Bits, von denen eines gesetzt, gelöscht oder umgekehrt wird, mit diesem Bit davor als Antwort. Literatur: 2 nach dem Satz von Herlihy 1991. Auf einem Bit löschen Setzen und Löschen aus, was vorher war, und zwei Umkehrungen vertauschen; auf verschiedenen Bits vertauschen alle."
     },
     "used": [
+     "x86",
      "LOCK BTS",
      "BTR",
      "BTC"
@@ -1069,6 +1148,7 @@ Cnum.examples = [
      "de": "4 Bits, auf denen jeder von sieben atomaren Speicherbefehlen von RISC-V mit einem Operanden arbeitet, mit den Bits davor als Antwort. Literatur: das Handbuch hat die Befehle, und keine Zahl (Waterman and Asanović 2019). Unter ihnen sind die Addition von 1 und das Und, das das unterste Bit löscht: zusammen haben sie keine größte Zahl."
     },
     "used": [
+     "RISC-V: A and Zacas",
      "AMO"
     ],
     "text": "# Four bits, on which each of seven atomic memory operations of RISC-V works with one operand, with the bits before as the answer.\n# The instructions: Waterman and Asanović 2019.\nname = \"riscv_amo_4bit\"\nstates = [\"b0000\", \"b0001\", \"b0010\", \"b0011\", \"b0100\", \"b0101\", \"b0110\", \"b0111\", \"b1000\", \"b1001\", \"b1010\", \"b1011\", \"b1100\", \"b1101\", \"b1110\", \"b1111\"]\nresponses = [\"b0000\", \"b0001\", \"b0010\", \"b0011\", \"b0100\", \"b0101\", \"b0110\", \"b0111\", \"b1000\", \"b1001\", \"b1010\", \"b1011\", \"b1100\", \"b1101\", \"b1110\", \"b1111\"]\n[[operation]]\nname = \"amoswap\"\nresponse = [\"b0000\", \"b0001\", \"b0010\", \"b0011\", \"b0100\", \"b0101\", \"b0110\", \"b0111\", \"b1000\", \"b1001\", \"b1010\", \"b1011\", \"b1100\", \"b1101\", \"b1110\", \"b1111\"]\nnext = [\"b0000\", \"b0000\", \"b0000\", \"b0000\", \"b0000\", \"b0000\", \"b0000\", \"b0000\", \"b0000\", \"b0000\", \"b0000\", \"b0000\", \"b0000\", \"b0000\", \"b0000\", \"b0000\"]\n[[operation]]\nname = \"amoadd\"\nresponse = [\"b0000\", \"b0001\", \"b0010\", \"b0011\", \"b0100\", \"b0101\", \"b0110\", \"b0111\", \"b1000\", \"b1001\", \"b1010\", \"b1011\", \"b1100\", \"b1101\", \"b1110\", \"b1111\"]\nnext = [\"b0001\", \"b0010\", \"b0011\", \"b0100\", \"b0101\", \"b0110\", \"b0111\", \"b1000\", \"b1001\", \"b1010\", \"b1011\", \"b1100\", \"b1101\", \"b1110\", \"b1111\", \"b0000\"]\n[[operation]]\nname = \"amoxor\"\nresponse = [\"b0000\", \"b0001\", \"b0010\", \"b0011\", \"b0100\", \"b0101\", \"b0110\", \"b0111\", \"b1000\", \"b1001\", \"b1010\", \"b1011\", \"b1100\", \"b1101\", \"b1110\", \"b1111\"]\nnext = [\"b0011\", \"b0010\", \"b0001\", \"b0000\", \"b0111\", \"b0110\", \"b0101\", \"b0100\", \"b1011\", \"b1010\", \"b1001\", \"b1000\", \"b1111\", \"b1110\", \"b1101\", \"b1100\"]\n[[operation]]\nname = \"amoand\"\nresponse = [\"b0000\", \"b0001\", \"b0010\", \"b0011\", \"b0100\", \"b0101\", \"b0110\", \"b0111\", \"b1000\", \"b1001\", \"b1010\", \"b1011\", \"b1100\", \"b1101\", \"b1110\", \"b1111\"]\nnext = [\"b0000\", \"b0000\", \"b0010\", \"b0010\", \"b0100\", \"b0100\", \"b0110\", \"b0110\", \"b1000\", \"b1000\", \"b1010\", \"b1010\", \"b1100\", \"b1100\", \"b1110\", \"b1110\"]\n[[operation]]\nname = \"amoor\"\nresponse = [\"b0000\", \"b0001\", \"b0010\", \"b0011\", \"b0100\", \"b0101\", \"b0110\", \"b0111\", \"b1000\", \"b1001\", \"b1010\", \"b1011\", \"b1100\", \"b1101\", \"b1110\", \"b1111\"]\nnext = [\"b0010\", \"b0011\", \"b0010\", \"b0011\", \"b0110\", \"b0111\", \"b0110\", \"b0111\", \"b1010\", \"b1011\", \"b1010\", \"b1011\", \"b1110\", \"b1111\", \"b1110\", \"b1111\"]\n[[operation]]\nname = \"amomaxu\"\nresponse = [\"b0000\", \"b0001\", \"b0010\", \"b0011\", \"b0100\", \"b0101\", \"b0110\", \"b0111\", \"b1000\", \"b1001\", \"b1010\", \"b1011\", \"b1100\", \"b1101\", \"b1110\", \"b1111\"]\nnext = [\"b0001\", \"b0001\", \"b0010\", \"b0011\", \"b0100\", \"b0101\", \"b0110\", \"b0111\", \"b1000\", \"b1001\", \"b1010\", \"b1011\", \"b1100\", \"b1101\", \"b1110\", \"b1111\"]\n[[operation]]\nname = \"amominu\"\nresponse = [\"b0000\", \"b0001\", \"b0010\", \"b0011\", \"b0100\", \"b0101\", \"b0110\", \"b0111\", \"b1000\", \"b1001\", \"b1010\", \"b1011\", \"b1100\", \"b1101\", \"b1110\", \"b1111\"]\nnext = [\"b0000\", \"b0001\", \"b0001\", \"b0001\", \"b0001\", \"b0001\", \"b0001\", \"b0001\", \"b0001\", \"b0001\", \"b0001\", \"b0001\", \"b0001\", \"b0001\", \"b0001\", \"b0001\"]\n"
@@ -1392,20 +1472,27 @@ Cnum.examples = [
      "de": "Ein Zähler modulo 8, zu dem jede kleinere Zahl ab 1 addiert wird, mit dem Stand davor als Antwort. Additionen vertauschen, also erfährt ein dritter Prozess nicht, wer der erste war. Zwei Additionen von 1 zu 0 bekommen 0 und 1 zur Antwort: die Zahl ist 2. Literatur: 2, für einen Zähler ohne Grenze (Herlihy 1991)."
     },
     "used": [
+     "x86",
      "LOCK XADD",
      "LOCK ADD",
      "SUB",
      "INC",
      "DEC",
+     "ARM with LSE",
      "LDADD",
+     "RISC-V: A and Zacas",
      "AMOADD",
+     "PTX and CUDA",
      "atom.add",
      "atomicAdd",
      "atomicSub",
+     "Rust",
      "fetch_add",
      "fetch_sub",
+     "C11, C++ and POSIX",
      "atomic_fetch_add",
      "atomic_fetch_sub",
+     "Java",
      "getAndAdd",
      "incrementAndGet"
     ],
@@ -1442,6 +1529,7 @@ Cnum.examples = [
      "de": "Ein Register von 2 Werten, das den ersten Wert behält und mit ihm antwortet. Der erste Wert beantwortet jeden Aufruf, also einigen sich beliebig viele Prozesse. Literatur: unendlich für das klebende Bit (Plotkin 1989)."
     },
     "used": [
+     "Rust",
      "OnceLock::get_or_init"
     ],
     "text": "# A register of 2 values that keeps the first one put and answers with it.\n# Sticky bit: Plotkin 1989.\nname = \"sticky_2\"\nstates = [\"unset\", \"0\", \"1\"]\nresponses = [\"0\", \"1\"]\n[[operation]]\nname = \"put0\"\nresponse = [\"0\", \"0\", \"1\"]\nnext = [\"0\", \"0\", \"1\"]\n[[operation]]\nname = \"put1\"\nresponse = [\"1\", \"0\", \"1\"]\nnext = [\"1\", \"0\", \"1\"]\n"
@@ -1525,16 +1613,23 @@ Cnum.examples = [
      "de": "Compare-and-swap auf 4 Werten, das mit dem Wert davor antwortet. Ab 0 tut einer cas01, die anderen cas02: der erste Aufruf bestimmt den Wert, der dann bleibt und den jeder erfährt, also einigen sich beliebig viele Prozesse. Literatur: unendlich (Herlihy 1991); drei Werte genügen (Loui and Abu-Amara 1987)."
     },
     "used": [
+     "x86",
      "LOCK CMPXCHG",
+     "ARM with LSE",
      "CAS",
+     "RISC-V: A and Zacas",
      "AMOCAS.W",
      "AMOCAS.D",
+     "PTX and CUDA",
      "atom.cas",
      "atomicCAS",
+     "Rust",
      "compare_exchange",
      "compare_exchange_weak",
+     "C11, C++ and POSIX",
      "atomic_compare_exchange_strong",
      "_weak",
+     "Java",
      "compareAndExchange"
     ],
     "text": "# Compare-and-swap on 4 values that answers with the value before, with 8 of its 12 operations.\n# Herlihy 1991; on two values and on three: Loui and Abu-Amara 1987.\nname = \"cas_4\"\nstates = [\"0\", \"1\", \"2\", \"3\"]\nresponses = [\"0\", \"1\", \"2\", \"3\"]\n[[operation]]\nname = \"cas01\"\nresponse = [\"0\", \"1\", \"2\", \"3\"]\nnext = [\"1\", \"1\", \"2\", \"3\"]\n[[operation]]\nname = \"cas02\"\nresponse = [\"0\", \"1\", \"2\", \"3\"]\nnext = [\"2\", \"1\", \"2\", \"3\"]\n[[operation]]\nname = \"cas03\"\nresponse = [\"0\", \"1\", \"2\", \"3\"]\nnext = [\"3\", \"1\", \"2\", \"3\"]\n[[operation]]\nname = \"cas10\"\nresponse = [\"0\", \"1\", \"2\", \"3\"]\nnext = [\"0\", \"0\", \"2\", \"3\"]\n[[operation]]\nname = \"cas20\"\nresponse = [\"0\", \"1\", \"2\", \"3\"]\nnext = [\"0\", \"1\", \"0\", \"3\"]\n[[operation]]\nname = \"cas30\"\nresponse = [\"0\", \"1\", \"2\", \"3\"]\nnext = [\"0\", \"1\", \"2\", \"0\"]\n[[operation]]\nname = \"cas12\"\nresponse = [\"0\", \"1\", \"2\", \"3\"]\nnext = [\"0\", \"2\", \"2\", \"3\"]\n[[operation]]\nname = \"cas23\"\nresponse = [\"0\", \"1\", \"2\", \"3\"]\nnext = [\"0\", \"1\", \"3\", \"3\"]\n"
@@ -1737,6 +1832,12 @@ Cnum.exampleWords = {
   "cas_3_bool",
   "cas_2"
  ],
+ "compare and swap": [
+  "cas_3",
+  "cas_4",
+  "cas_3_bool",
+  "cas_2"
+ ],
  "cmpxchg": [
   "cas_3",
   "cas_3_bool",
@@ -1771,6 +1872,14 @@ Cnum.exampleWords = {
   "fetch_add_mod4",
   "fetch_inc_mod4",
   "wrapping_add_1_2"
+ ],
+ "fetch and add": [
+  "fetch_add_mod4",
+  "fetch_inc_mod4",
+  "wrapping_add_1_2"
+ ],
+ "fetch and increment": [
+  "fetch_inc_mod4"
  ],
  "xadd": [
   "fetch_add_mod4",
@@ -1894,6 +2003,10 @@ Cnum.exampleWords = {
   "mailbox_latest",
   "queue_2"
  ],
+ "bounded buffer": [
+  "queue_2",
+  "mailbox_refuse"
+ ],
  "mpsc": [
   "queue_2",
   "mailbox_refuse"
@@ -1928,6 +2041,10 @@ Cnum.exampleWords = {
  ],
  "shared_ptr": [
   "arc_drop_upgrade"
+ ],
+ "reference count": [
+  "arc_drop_upgrade",
+  "counter_dec_sat"
  ],
  "refcount": [
   "arc_drop_upgrade",

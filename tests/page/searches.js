@@ -25,10 +25,12 @@ const FIRST = {
     rwlock: 'rwlock_try',
     semaphore: 'semaphore_3',
     CAS: 'cas_3',
+    'compare and swap': 'cas_3',
     cmpxchg: 'cas_3',
     compareAndSet: 'cas_3_bool',
     cmpxchg16b: 'dcas_2x2',
     FAA: 'fetch_add_mod4',
+    'fetch-and-add': 'fetch_add_mod4',
     xadd: 'fetch_add_mod4',
     LDADD: 'fetch_add_mod4',
     getAndAdd: 'fetch_add_mod4',
@@ -79,6 +81,10 @@ describe('words of engineers', () => {
 
     it('finds by the instructions and calls of the catalogue', () => {
         assert.deepEqual(['ldumax', 'atomicMax', 'putIfAbsent', 'amocas.q'].map(it => names(it)[0]), ['fetch_max_4', 'fetch_max_4', 'swap_if_zero', 'dcas_2x2']);
+    });
+
+    it('finds by a language and by an operation', () => {
+        assert.ok(names('java').includes('queue_2') && names('c11').includes('swap_4') && names('release').includes('weighted_semaphore_3'));
     });
 
     it('finds by two words', () => assert.deepEqual(names('x86 xadd')[0], 'fetch_add_mod4'));

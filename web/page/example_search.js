@@ -27,9 +27,10 @@ var Cnum = globalThis.Cnum || {};
     const WORDS = new Map(Object.entries(Cnum.exampleWords).map(([word, names]) => [plain(word), names]));
 
     // The examples with the words by which each is found: its name, its group, what is said of it, the first lines of its
-    // table, which say what it is and where it is from, the instructions and calls that it stands for, and the words of engineers.
+    // table, which say what it is and where it is from, the names of its operations, the instructions and calls that it stands for,
+    // and the words of engineers.
     Cnum.exampleIndex = function () {
-        const remarks = text => text.split('\n').filter(it => it.startsWith('#'));
+        const remarks = text => text.split('\n').filter(it => it.startsWith('#') || it.startsWith('name = '));
         return Cnum.examples.flatMap(group =>
             group.types.map(example => {
                 const name = nameOf(example.path);
