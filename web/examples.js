@@ -146,7 +146,7 @@ Cnum.examples = [
     "path": "catalogue/snapshot_2x2",
     "about": {
      "en": "Two registers of one bit, which are read together. Literature: 1, since it is made from registers (Afek et al. 1993). Writes to one register wipe each other out, writes to the two commute, and none answers anything.",
-     "de": "Zwei Register von einem Bit, die zusammen gelesen werden. Literatur: 1, denn man kann es aus Registern bauen (Afek et al. 1993). In ein Register löscht das spätere Schreiben das frühere aus, in zwei Register vertauschen sie. Niemand bekommt etwas zur Antwort."
+     "de": "Zwei Register von einem Bit, die zusammen gelesen werden. Literatur: 1, denn man kann es aus Registern bauen (Afek et al. 1993). Im selben Register löscht das spätere Schreiben das frühere aus, in verschiedenen vertauschen sie. Niemand bekommt etwas zur Antwort."
     },
     "text": "# Two registers of one bit, which are read together.\n# Snapshot object: Afek et al. 1993.\nname = \"snapshot_2x2\"\nstates = [\"c00\", \"c10\", \"c01\", \"c11\"]\nresponses = [\"ok\"]\n[[operation]]\nname = \"write0_0\"\nresponse = [\"ok\", \"ok\", \"ok\", \"ok\"]\nnext = [\"c00\", \"c00\", \"c01\", \"c01\"]\n[[operation]]\nname = \"write0_1\"\nresponse = [\"ok\", \"ok\", \"ok\", \"ok\"]\nnext = [\"c10\", \"c10\", \"c11\", \"c11\"]\n[[operation]]\nname = \"write1_0\"\nresponse = [\"ok\", \"ok\", \"ok\", \"ok\"]\nnext = [\"c00\", \"c10\", \"c00\", \"c10\"]\n[[operation]]\nname = \"write1_1\"\nresponse = [\"ok\", \"ok\", \"ok\", \"ok\"]\nnext = [\"c01\", \"c11\", \"c01\", \"c11\"]\n"
    },
