@@ -1,5 +1,5 @@
 // The address of the page: it shows what the address says, keeps in it what is shown, and hands it on as a link
-// or as a file.
+// or as a file. What the reader changes is one more entry of the browser's history, so that its back button undoes it.
 var Cnum = globalThis.Cnum || {};
 
 (() => {
@@ -8,34 +8,37 @@ var Cnum = globalThis.Cnum || {};
     const { element, say } = Cnum;
     const BEFORE_KEEPING = 150;
     const FIRST = '#example=types/test_and_set';
-    // The parts of the page that can be shown alone, by their names in a link.
-    const VIEWS = { number: 'number-part', why: 'why-part', states: 'picture-part', run: 'protocol-part', pairs: 'compare-part' };
 
     const at = id => document.getElementById(id);
 
     class Address {
         // `pageWith` gives the page as a file with a link in it, if it can be saved so.
         constructor(page, pageWith) {
-            Object.assign(this, { page, pageWith });
+            Object.assign(this, { page, pageWith, link: null });
             at('copy-link').addEventListener('click', () => this.copy());
             at('save-page').addEventListener('click', () => this.savePage());
             at('save-page').hidden = !pageWith;
             at('language').addEventListener('change', () => this.speak(at('language').value));
-            at('skip').addEventListener('click', event => this.skip(event));
-            window.addEventListener('hashchange', () => this.follow());
+            for (const event of ['popstate', 'hashchange']) window.addEventListener(event, () => this.follow());
         }
 
         // Shows what the address says, or else what the file of the page holds.
         async follow() {
             if (location.hash === this.link) return;
+            const isFirst = this.link === null;
+            this.link = location.hash;
+            clearTimeout(this.keeping);
             const linked = await Cnum.linkedBy(location.hash || Cnum.savedLink());
             if (linked.fault) {
                 this.refuse(linked.fault);
             } else if ((linked.lang || Cnum.FIRST_LANGUAGE) !== Cnum.language) {
                 location.reload();
             } else {
-                this.showView(linked.view);
-                await this.page.showLinked(linked);
+                this.isFollowing = true; // what is shown now is the entry that the browser is at
+                this.page.showScreen(linked);
+                await this.page.showLinked(linked, isFirst);
+                if (!at('content').hidden) await this.keep();
+                this.isFollowing = false;
             }
         }
 
@@ -57,16 +60,6 @@ var Cnum = globalThis.Cnum || {};
             return fits;
         }
 
-        // Shows this part alone, or the whole page if there is none.
-        showView(view) {
-            this.view = view;
-            at('trouble').replaceChildren();
-            at('content').hidden = false;
-            document.body.classList.toggle('one-part', Boolean(view));
-            for (const name of Object.keys(VIEWS)) at(VIEWS[name]).classList.toggle('shown', name === view);
-            at('whole').hidden = !view;
-        }
-
         // A browser takes so many addresses at a time, and one can step faster.
         keepSoon() {
             clearTimeout(this.keeping);
@@ -75,11 +68,31 @@ var Cnum = globalThis.Cnum || {};
 
         async keep() {
             clearTimeout(this.keeping);
-            const shown = { ...this.page.linkContent(), lang: Cnum.language };
-            const link = await Cnum.linkOf({ ...shown, view: this.view });
+            if (at('content').hidden) return;
+            const { view, ...rest } = this.page.linkContent();
+            const shown = { ...rest, lang: Cnum.language };
+            const link = await Cnum.linkOf({ ...shown, view });
             at('whole-link').href = await Cnum.linkOf(shown);
+            this.put(link);
+        }
+
+        // A link that says something new is one more entry of the history. A browser that takes no more entries keeps the last.
+        put(link) {
+            const isSame = link === this.link || this.isFollowing;
             this.link = link;
-            history.replaceState(null, '', link);
+            try {
+                if (isSame) history.replaceState(null, '', link);
+                else history.pushState(null, '', link);
+            } catch {
+                this.keepSoon();
+            }
+        }
+
+        // A link to the solution of the table, for a sheet: none, if the page is a file, or if it would be too long to type.
+        ofSheet() {
+            const { example } = this.page.linkContent();
+            if (location.protocol === 'file:' || !example) return '';
+            return `${location.origin}${location.pathname}#example=${example}&view=solution`;
         }
 
         async copy() {
@@ -96,7 +109,7 @@ var Cnum = globalThis.Cnum || {};
 
         async savePage() {
             await this.keep();
-            this.page.offer('html', this.pageWith(this.link), 'text/html');
+            this.page.offer('html', this.pageWith(this.link, this.page.nameOfType()), 'text/html');
         }
 
         // Shows the same in another language.
@@ -105,12 +118,6 @@ var Cnum = globalThis.Cnum || {};
             if (at('content').hidden) history.replaceState(null, '', `#lang=${lang}`);
             else await this.keep();
             location.reload();
-        }
-
-        // Leads to the number. The address holds the link, and so has no place for the name of a part.
-        skip(event) {
-            event.preventDefault();
-            at('number-part').focus();
         }
     }
 

@@ -12,8 +12,7 @@ var Cnum = globalThis.Cnum || {};
     const PROVED = /^(.*?), proved (by .*)\n$/;
     const { SHORTEST, CERTIFICATE, WITHOUT_READS: PLAN_WITHOUT_READS } = Cnum.plans.kinds;
     const WITHOUT_READS = '--without-read';
-    const BY_STOCKS = '--stocks';
-    const MOST_PROCESSES = 8; // of a protocol
+    const MOST_PROCESSES = Cnum.sizes.MOST;
 
     const at = id => document.getElementById(id);
     const examples = new Map(Cnum.examples.flatMap(group => group.types).map(it => [it.path, it]));
@@ -29,8 +28,7 @@ var Cnum = globalThis.Cnum || {};
             this.beside = new Cnum.Runner(module); // of comparisons
             this.round = 0;
             this.past = new Cnum.Past();
-            this.certificate = '';
-            this.limit = null; // what was chosen for the processes of the protocol, if fewer than the most
+            this.limit = null; // what was chosen for the processes of the protocol, if another number than the usual one
             this.comeBack = false; // whether the processes of the protocol crash and come back
             this.plan = SHORTEST; // the kind of plan of the protocol
             this.reads = true; // whether reasons, comparisons and links are for objects that can be read
@@ -47,6 +45,10 @@ var Cnum = globalThis.Cnum || {};
             );
             this.comparison = new Cnum.Comparison(at('comparison'), this.forComparison());
             this.protocol = new Cnum.Protocol(at('protocol'), this.forProtocol());
+            this.failing = new Cnum.FailingView(at('failing'), this.forFailing());
+            this.sheet = new Cnum.Sheet({ place: at('sheet'), choice: at('sheet-choice') }, { version: () => this.version, address: () => this.address.ofSheet() });
+            this.claims = new Cnum.Claims(this.forClaims());
+            this.screens = new Cnum.Screens(() => this.address.keepSoon());
             this.address = new Cnum.Address(this, pageWith);
             this.listen();
         }
@@ -73,7 +75,27 @@ var Cnum = globalThis.Cnum || {};
                 mainPicture: () => this.mainPicture(),
                 changed: () => this.address.keepSoon(),
                 say: text => (at('step-said').textContent = text),
+                name: () => this.nameOfType(),
                 save: (part, picture, form) => this.savePicture(part, picture, form),
+            };
+        }
+
+        // What the run that fails needs of the page.
+        forFailing() {
+            return {
+                picture: plan => Cnum.pictureOf(this.graph, plan),
+                name: () => this.nameOfType(),
+                close: () => this.tryAnyway(false),
+            };
+        }
+
+        forClaims() {
+            return {
+                ask: (words, files) => this.ask(this.quick, words, files),
+                take: text => this.edit(text),
+                table: () => this.table,
+                notice: text => this.notice(text),
+                printed,
             };
         }
 
@@ -97,32 +119,26 @@ var Cnum = globalThis.Cnum || {};
                 typed = setTimeout(() => this.refresh(), AFTER_TYPING);
             });
             at('own').addEventListener('click', () => this.edit(Cnum.FIRST_TABLE));
-            at('limit').addEventListener('change', async () => {
-                this.limit = at('limit').value === String(this.most) ? null : Number(at('limit').value);
-                await this.refresh();
-                // The field was away in the meantime, and lost the focus.
-                if (document.activeElement === document.body) at('limit').focus();
-            });
+            at('limit').addEventListener('change', () => this.chooseLimit(Number(at('limit').value)));
             at('come-back').addEventListener('change', () => {
                 this.comeBack = at('come-back').checked;
                 this.refresh();
             });
             at('plan').addEventListener('change', () => this.choosePlan(at('plan').value));
+            at('try-anyway').addEventListener('click', () => this.tryAnyway(true));
+            at('skip').addEventListener('click', event => this.skipTo(event, 'why', 'number-part'));
+            at('skip-protocol').addEventListener('click', event => this.skipTo(event, 'run', 'protocol-part'));
+            Cnum.listenToRunKeys(this.protocol, () => at('protocol').getClientRects().length > 0);
             this.listenToUndo();
             at('break-off').addEventListener('click', () => this.breakOff());
             at('break-off-without').addEventListener('click', () => this.breakOffUnread());
             for (const it of document.querySelectorAll('.of-choice button')) it.addEventListener('click', () => this.chooseReads(!this.reads));
-            const offers = {
-                download: () => ['json', this.certificate, 'application/json'],
-                'download-table': () => ['toml', this.text, 'application/toml'],
-            };
-            for (const id of Object.keys(offers)) at(id).addEventListener('click', () => this.offer(...offers[id]()));
+            at('download').addEventListener('click', () => this.offerCertificate());
+            at('download-table').addEventListener('click', () => this.offer('toml', this.text, 'application/toml'));
             for (const form of ['svg', 'png']) {
                 at(`picture-${form}`).addEventListener('click', () => this.savePicture('states', this.mainPicture(), form));
             }
-            at('claim-file').addEventListener('change', () => this.check(at('claim-file').files[0]));
             at('notice-close').addEventListener('click', () => this.notice(''));
-            this.listenToDrops();
         }
 
         // Undo and redo by their buttons, by keys, and as the browser's own commands in the text.
@@ -141,30 +157,6 @@ var Cnum = globalThis.Cnum || {};
                 event.preventDefault();
                 this.goBack(by);
             });
-        }
-
-        // A file can be dropped anywhere: a table becomes the text, and any other file is checked as a
-        // certificate.
-        listenToDrops() {
-            for (const [name, isOver] of [['dragover', true], ['dragleave', false], ['drop', false]]) {
-                document.body.addEventListener(name, event => {
-                    event.preventDefault();
-                    document.body.classList.toggle('over', isOver);
-                    if (name === 'drop') this.take(event.dataTransfer.files[0]);
-                });
-            }
-        }
-
-        async take(file) {
-            if (!file) return;
-            if (Cnum.isTableName(file.name)) {
-                const table = Cnum.textOf(new Uint8Array(await file.arrayBuffer()));
-                const editing = this.edit(table);
-                this.notice(say('table_taken', { name: file.name }));
-                await editing;
-            } else {
-                await this.check(file);
-            }
         }
 
         // Tells something where the reader looks, wherever that is on the page.
@@ -211,9 +203,53 @@ var Cnum = globalThis.Cnum || {};
 
         // Another table, with the reason of its number in view.
         async openWhy(text) {
-            this.address.showView('');
+            this.showScreen({ acts: [], screen: 'why' });
             await this.edit(text);
-            at('why-part').scrollIntoView();
+        }
+
+        // Shows the screen and the view of a link.
+        showScreen(linked) {
+            this.screens.open(linked.screen || Cnum.links.screenOf(linked));
+            this.screens.showView(linked.view);
+            this.sheet.show({ kind: linked.view === 'solution' ? 'solution' : 'exercise' });
+        }
+
+        // Leads to a part. The address holds the link, and so has no place for the name of a part.
+        skipTo(event, screen, part) {
+            event.preventDefault();
+            this.screens.open(screen);
+            at(part).focus();
+        }
+
+        // Shows the protocol for another number of processes. Nothing else changes.
+        async chooseLimit(limit) {
+            this.limit = limit;
+            this.offerLimits();
+            await this.showChosen({ inputs: [], acts: [] });
+            this.address.keepSoon();
+        }
+
+        // Shows the run that fails if one process more tries it, or the protocol again.
+        tryAnyway(isTried) {
+            this.isTried = isTried && this.failing.isThere();
+            at('protocol').hidden = at('choices').hidden = this.isTried;
+            at('failing').hidden = !this.isTried;
+            if (this.isTried) this.failing.draw();
+            if (this.isTried) this.screens.open('run');
+            this.screens.afterwards();
+            this.address.keepSoon();
+        }
+
+        // The certificate for as many processes as the program can, or as were chosen.
+        async certificateText() {
+            const limit = this.limit && this.limit < this.certified ? ['--limit', String(this.limit)] : [];
+            const find = await this.ask(this.search, ['find', ...limit]);
+            return find && find.status === 0 ? find.stdout : '';
+        }
+
+        async offerCertificate() {
+            const text = await this.certificateText();
+            if (text) this.offer('json', text, 'application/json');
         }
 
         // The table before the last change, or after it. The cursor goes to the place of the change.
@@ -269,24 +305,40 @@ var Cnum = globalThis.Cnum || {};
             return numbers && Cnum.pairsToldBy(sets, numbers);
         }
 
-        // Shows what a link says. If it has no limit, there are as many processes as it has inputs. Those that come back may
-        // be fewer than those of why. A run with no plan is of the certificate: older pages made such links.
-        async showLinked(linked) {
-            this.comeBack = at('come-back').checked = Boolean(linked.comeBack);
-            this.reads = linked.reads !== false;
-            this.plan = linked.plan || (linked.comeBack || !linked.acts.length ? SHORTEST : CERTIFICATE);
-            at('plan').value = this.plan;
-            this.limit = linked.limit || (linked.inputs.length > 1 && !linked.comeBack ? linked.inputs.length : null);
-            this.text = linked.text === undefined ? examples.get(linked.example || FIRST_EXAMPLE).text : linked.text;
-            await this.refresh(linked);
+        // Shows what a link says. If it has no limit, there are as many processes as it has inputs, and if it has neither but a
+        // run, as many as can be. Those that come back may be fewer. A run with no plan is of the certificate: older pages made
+        // such links. If only the run is another one, nothing is searched anew.
+        async showLinked(linked, isFirst) {
+            const comeBack = Boolean(linked.comeBack);
+            const plan = linked.plan || (comeBack || !linked.acts.length ? SHORTEST : CERTIFICATE);
+            const text = linked.text === undefined ? examples.get(linked.example || FIRST_EXAMPLE).text : linked.text;
+            const ofRun = linked.inputs.length > 1 ? linked.inputs.length : linked.acts.length ? MOST_PROCESSES : null;
+            const limit = linked.limit || (comeBack ? null : ofRun);
+            const reads = linked.reads !== false;
+            const isSame = !isFirst && text === this.table && comeBack === this.comeBack && plan === this.plan && reads === this.reads;
+            const willTry = Boolean(linked.isTried);
+            Object.assign(this, { comeBack, reads, plan, limit });
+            at('come-back').checked = comeBack;
+            at('plan').value = plan;
+            if (isSame && this.told) {
+                this.offerLimits();
+                await this.showChosen(linked);
+            } else {
+                this.past.goTo(text);
+                this.text = text;
+                await this.refresh(linked);
+            }
+            this.tryAnyway(willTry);
         }
 
         // What a link says of what is shown.
         linkContent() {
             const example = this.example();
             const { inputs } = this.protocol;
-            const { text, limit, comeBack, reads, plan } = this;
-            return { example: example && example.path, text, limit, comeBack, reads, plan, inputs, acts: this.protocol.actsSoFar() };
+            const { text, limit, comeBack, reads, plan, isTried } = this;
+            const { screen, view } = this.screens;
+            const acts = this.protocol.actsSoFar();
+            return { example: example && example.path, text, limit, comeBack, reads, plan, inputs, acts, isTried, screen, view };
         }
 
         // Ends what runs, so that nothing is shown any more.
@@ -309,7 +361,7 @@ var Cnum = globalThis.Cnum || {};
             this.table = this.text;
             const example = this.example();
             this.past.put(this.text);
-            at('type-name').textContent = this.nameOfType();
+            this.tellName();
             at('undo').disabled = !this.past.canMove(-1);
             at('redo').disabled = !this.past.canMove(1);
             this.examples.show(example && example.path);
@@ -323,16 +375,25 @@ var Cnum = globalThis.Cnum || {};
             at('notes').replaceChildren(...(isTable ? Cnum.notesOf(this.table) : []).map(it => element('li', {}, it)));
             this.forget(isTable ? '' : say('no_number'));
             this.comparison.show(isTable ? this.table : '');
-            if (isTable && this.address.view === 'pairs') this.comparison.pair();
+            if (isTable && this.screens.view === 'pairs') this.comparison.pair();
             this.tellChoice();
             if (isTable) await this.find(linked);
-            if (!at('content').hidden) await this.address.keep();
+            await this.address.keep();
+        }
+
+        // The name of the type, as a heading and as the title of the page.
+        tellName() {
+            const name = this.nameOfType();
+            at('type-name').textContent = name;
+            document.title = name ? say('title_of_type', { name }) : say('title');
         }
 
         // Takes away what was said of another table.
         forget(why) {
             clearTimeout(this.early);
-            this.certificate = '';
+            this.told = null; // what `why` tells of objects that can be read
+            this.certified = 1; // for how many processes there is a certificate
+            this.recoverable = null;
             this.numbers.clear(why);
             this.reasons = new Map(); // what `why` told of the numbers, by whether the object can be read
             this.refused = ''; // why there is no evidence, if there is none
@@ -341,16 +402,14 @@ var Cnum = globalThis.Cnum || {};
             at('running').hidden = at('running-without').hidden = true;
             at('why').replaceChildren();
             this.picture.clear();
-            at('claim-said').textContent = '';
-            at('claim-told').replaceChildren();
-            at('claim-file').value = '';
-            at('recoverable').textContent = at('come-back-said').textContent = at('plan-said').textContent = '';
-            at('plan-part').hidden = true;
-            at('limit-said').textContent = '';
-            at('limit-part').hidden = true;
-            at('legend').hidden = true;
+            this.claims.clear();
+            for (const id of ['recoverable', 'bound', 'come-back-said', 'plan-said', 'limit-said']) at(id).textContent = '';
+            for (const id of ['plan-part', 'limit-part', 'try-part', 'legend']) at(id).hidden = true;
             at('download').disabled = at('picture-svg').disabled = at('picture-png').disabled = true;
             this.protocol.clear(why);
+            this.failing.clear();
+            this.sheet.show({ told: null, text: this.table });
+            this.tryAnyway(false);
         }
 
         async find(linked) {
@@ -362,30 +421,64 @@ var Cnum = globalThis.Cnum || {};
             await this.showNumber(linked);
         }
 
-        // Finds the number, and shows it, and then the evidence.
+        // Finds the number with its reasons, and shows them, and then the protocol. Beside that, another worker finds the other
+        // numbers.
         async showNumber(linked) {
             this.numbers.say(true, say('searching'));
-            const unread = this.showUnread();
-            const classify = await this.found(['classify', '--as', 'json', '-']);
-            if (!classify) return;
-            this.numbers.tell(true, JSON.parse(classify.stdout).number);
-            const hasEvidence = await this.showEvidence();
-            if (hasEvidence && !this.comeBack) await this.showProtocol(linked);
-            const recoverable = await this.showRecoverable();
-            if (recoverable && this.comeBack) await this.showLives(linked, recoverable);
-            if (!this.reads) await unread;
+            const others = this.showOthers();
+            const why = await this.found(['why', '--as', 'json', '-']);
+            if (!why) return;
+            this.tellNumber(JSON.parse(why.stdout));
+            if (!(await this.findWithoutReads())) return;
+            this.offerLimits();
+            if (this.reads) await this.showReasons();
+            await this.showChosen(linked);
+            if (!this.reads) await others;
         }
 
-        // Finds the number without reads, in a worker of its own, since that may take long. Shows it, and why, if it is chosen.
-        async showUnread() {
+        // Takes what `why` tells of objects that can be read.
+        tellNumber(told) {
+            this.told = told;
+            this.reasons.set(true, told);
+            this.certified = told.witness ? told.witness.processes.length : 1;
+            at('download').disabled = false;
+            this.numbers.tell(true, told.number);
+            this.tellBound();
+            this.failing.show(told, this.table);
+            at('try-part').hidden = !this.failing.isThere();
+            at('try-anyway').textContent = this.failing.title();
+            this.sheet.show({ told, text: this.table });
+        }
+
+        // The protocol for the processes that are chosen.
+        async showChosen(linked) {
+            if (this.comeBack) {
+                const recoverable = this.recoverable || (await this.findRecoverable());
+                if (recoverable) await this.showLives(linked, recoverable);
+            } else {
+                await this.showProtocol(linked);
+            }
+        }
+
+        // What the number with reads says of objects that cannot be read: nothing more can agree through them.
+        tellBound() {
+            const number = this.told && this.told.number;
+            at('bound').textContent = typeof number === 'number' && number > 1 ? say('bound', { number }) : '';
+        }
+
+        // Finds the number without reads, with the recoverable one, in a worker of its own, since that may take long. Shows
+        // both, and why, if the number without reads is chosen.
+        async showOthers() {
             this.numbers.say(false, say('searching'));
-            const answer = await this.askUnread(['classify']);
+            const answer = await this.askUnread(['classify', '--recoverable']);
             if (!answer) return;
             if (answer.status !== 0) {
                 this.numbers.say(false, Cnum.inWords(answer));
                 return;
             }
-            this.numbers.tell(false, JSON.parse(answer.stdout).without_read);
+            const { recoverable, without_read: unread } = JSON.parse(answer.stdout);
+            this.numbers.tell(false, unread);
+            this.tellRecoverable(recoverable);
             if (!this.reads) await this.showUnreadReasons();
         }
 
@@ -394,15 +487,17 @@ var Cnum = globalThis.Cnum || {};
             return this.timed(this.ask(this.unread, [...words, WITHOUT_READS, '--as', 'json', '-']), at('running-without'));
         }
 
-        // Finds the recoverable number, and shows it.
-        async showRecoverable() {
+        // Finds the recoverable number alone, as it is wanted at once. If there is none, the answer is null.
+        async findRecoverable() {
             const answer = await this.timed(this.ask(this.search, ['classify', '--recoverable', '--as', 'json', '-']));
             if (!answer) return null;
-            if (answer.status !== 0) {
-                if (this.comeBack) this.refuseLives(Cnum.inWords(answer));
-                return null;
-            }
-            const { recoverable } = JSON.parse(answer.stdout);
+            if (answer.status === 0) return this.tellRecoverable(JSON.parse(answer.stdout).recoverable);
+            this.refuseLives(Cnum.inWords(answer));
+            return null;
+        }
+
+        tellRecoverable(recoverable) {
+            this.recoverable = recoverable;
             at('recoverable').textContent = say('recoverable', { number: Cnum.numberText(recoverable) });
             return recoverable;
         }
@@ -415,28 +510,22 @@ var Cnum = globalThis.Cnum || {};
             return null;
         }
 
-        // Finds the certificate for as many processes as the program can, or as were chosen, and shows why, if the number for
-        // objects that can be read is chosen. The answer is whether there is evidence.
-        async showEvidence() {
-            const most = await this.found(['find']);
-            const find = most && (await this.findChosen(most));
-            if (!find) return false;
-            this.certificate = find.stdout;
-            at('download').disabled = false;
-            return !this.reads || this.showReasons();
+        // Shows why the number for objects that can be read is what it is.
+        async showReasons() {
+            const told = this.reasons.get(true);
+            const example = await this.exampleOf(told);
+            if (!this.reads || told !== this.told) return;
+            const more = { all: () => this.explainAll(), printed: () => this.printedWhy(), tryAnyway: () => this.tryAnyway(true) };
+            Cnum.showExplanation(at('why'), example, { ...more, anyway: this.failing.title() });
+            Cnum.explainWords(at('why'));
         }
 
-        // Shows why the number for objects that can be read is what it is. The answer is whether the program tells it.
-        async showReasons() {
-            if (!this.reasons.has(true)) {
-                const why = await this.found(this.whyWords('--as', 'json'));
-                if (!why) return false;
-                this.reasons.set(true, JSON.parse(why.stdout));
-            }
-            if (!this.reads) return true;
-            Cnum.showExplanation(at('why'), this.reasons.get(true), { all: () => this.explainAll(), printed: () => this.printedWhy() });
-            Cnum.explainWords(at('why'));
-            return true;
+        // An explanation that has no greatest number has the witness of few processes as its example.
+        async exampleOf(told) {
+            const count = Cnum.sizes.usual(told.number, this.certified);
+            if (count === this.certified || !told.witness) return told;
+            const few = await this.found(['why', '--limit', String(count), '--as', 'json', '-']);
+            return few ? { ...told, witness: JSON.parse(few.stdout).witness } : told;
         }
 
         // The same without reads.
@@ -461,7 +550,7 @@ var Cnum = globalThis.Cnum || {};
             this.tellChoice();
             if (at('picture').firstElementChild) this.redraw();
             this.explain();
-            if (this.certificate) this.offerLimits();
+            if (this.told) this.offerLimits();
             this.comparison.again();
             this.address.keepSoon();
         }
@@ -469,7 +558,7 @@ var Cnum = globalThis.Cnum || {};
         // Shows why the number that is chosen is what it is, or that this is searched for, or why there are no reasons.
         explain() {
             const { reads } = this;
-            const isKnown = reads ? this.certificate && !this.refused : this.numbers.has(false);
+            const isKnown = reads ? this.told && !this.refused : this.numbers.has(false);
             const isBusy = (reads ? this.search : this.unread).isBusy();
             this.sayOfReasons(reads && this.refused ? this.refused : say(isKnown || isBusy ? 'searching' : 'search_broken_off'));
             if (isKnown && reads) this.showReasons();
@@ -484,8 +573,8 @@ var Cnum = globalThis.Cnum || {};
         // Shows the reasons of one of the two numbers where the reader looks.
         openReasons(reads) {
             if (reads !== this.reads) this.chooseReads(reads);
-            at('why-part').scrollIntoView();
-            at('why-part').focus();
+            at('why-part').scrollIntoView({ block: 'nearest' });
+            at('why-part').focus({ preventScroll: true });
         }
 
         // Says for which of the two numbers the parts of the page are, with a button for the other one.
@@ -499,19 +588,6 @@ var Cnum = globalThis.Cnum || {};
                 it.classList.toggle('unread', !reads);
             }
             at('protocol-of').hidden = reads;
-        }
-
-        // The certificate for the chosen processes, if they are fewer than those of this one.
-        async findChosen(whole) {
-            this.certified = JSON.parse(whole.stdout).number || 1;
-            if (!(await this.findWithoutReads())) return null;
-            this.offerLimits();
-            return this.certifies() ? this.found(['find', '--limit', String(this.limit)]) : whole;
-        }
-
-        // Whether the certificate is for the processes that were chosen, and not for as many as it can.
-        certifies() {
-            return Boolean(this.limit) && this.limit < this.certified;
         }
 
         // Whether the protocol is the plan without reads.
@@ -534,49 +610,31 @@ var Cnum = globalThis.Cnum || {};
             return status === 0 ? JSON.parse(stdout).processes : 1;
         }
 
-        // The most processes that can be chosen. The shortest plan may be for more than the certificate, and that without reads
-        // for fewer.
-        mostToChoose() {
-            if (this.isWithoutReads() && this.withoutReads) return this.mostWithoutReads();
-            const isOfCertificate = this.comeBack || this.plan === CERTIFICATE || this.certified === 1;
-            return isOfCertificate ? this.certified : Math.min(MOST_PROCESSES, Cnum.leastOf(this.numbers.of(true)));
+        // What the number of processes of the protocol depends on.
+        sizes() {
+            const { certified, comeBack, reads, limit, plan } = this;
+            const number = this.told.number;
+            const isWithoutReads = this.isWithoutReads();
+            const unread = isWithoutReads && this.withoutReads ? this.mostWithoutReads() : null;
+            const most = Cnum.sizes.mostOf({ number, certified, comeBack, isOfCertificate: plan === CERTIFICATE, unread });
+            return { number, certified, comeBack, reads, isWithoutReads, most, limit: Cnum.sizes.chosen(limit, number, most) };
         }
 
-        // Says for how many processes why and the protocol are, and lets one choose fewer. Those that come back may be others.
+        // For how many processes the protocol is.
+        count() {
+            const { number, most, limit } = this.sizes();
+            return limit || Cnum.sizes.usual(number, most);
+        }
+
+        // Says for how many processes the protocol is, and lets one choose another number.
         offerLimits() {
-            this.most = this.mostToChoose();
-            if (this.limit >= this.most) this.limit = null;
-            const { most, limit } = this;
-            const options = Array.from({ length: most - 1 }, (_, index) => element('option', {}, String(index + 2)));
+            const sizes = this.sizes();
+            this.limit = sizes.limit;
+            const options = Array.from({ length: Math.max(0, sizes.most - 1) }, (_, index) => element('option', {}, String(index + 2)));
             at('limit').replaceChildren(...options);
-            at('limit').value = limit || most;
-            at('limit-part').hidden = most < 3;
-            at('limit-said').textContent = most > 1 ? this.sizesInWords() : '';
-        }
-
-        // For how many processes the parts of the page are.
-        sizesInWords() {
-            const { most, limit, certified, comeBack, reads } = this;
-            const count = limit || most;
-            if (comeBack && !reads) return '';
-            if (this.isWithoutReads()) return this.withoutReads ? this.sizeWithoutReads() : '';
-            if (reads && count > certified) return say('evidence_apart', { count, certified });
-            const parts = comeBack ? 'evidence_why' : reads ? 'evidence_parts' : 'evidence_protocol';
-            const key = limit ? 'evidence_chosen' : most < Cnum.mostOf(this.numbers.of(true)) ? 'evidence_most' : 'evidence_whole';
-            return say(key, { parts: say(parts), count, most });
-        }
-
-        // The same if the protocol is the plan without reads. Why is for as many processes as it is only if fewer were chosen.
-        sizeWithoutReads() {
-            const { most, limit, reads } = this;
-            const parts = say(reads && this.certifies() ? 'evidence_parts' : 'evidence_protocol');
-            return say(limit ? 'evidence_chosen' : 'evidence_unread', { parts, count: limit || most, most });
-        }
-
-        // The words that ask why the number is what it is, as far as was chosen.
-        whyWords(...words) {
-            const limit = this.certifies() ? ['--limit', String(this.limit)] : [];
-            return ['why', ...limit, ...words, '-'];
+            at('limit').value = this.count();
+            at('limit-part').hidden = sizes.most < 3;
+            at('limit-said').textContent = Cnum.sizes.inWords(sizes);
         }
 
         // Says why there is no evidence, and so no protocol.
@@ -587,26 +645,27 @@ var Cnum = globalThis.Cnum || {};
             this.protocol.clear(why);
         }
 
-        // The protocol for as many processes as were chosen: the shortest, that of the certificate's witness, or the shortest
+        // The protocol for as many processes as are chosen: the shortest, that of the certificate's witness, or the shortest
         // without reads.
         async showProtocol(linked) {
-            const { number, witness } = JSON.parse(this.certificate);
-            if (number === null) {
+            const { witness } = this.told;
+            if (!witness) {
                 if (!this.address.fits(linked, 1)) return;
                 this.draw(null);
                 this.protocol.clear(say('nobody'));
                 return;
             }
             const { plan } = this;
-            if (this.isWithoutReads() && this.most < 2) {
-                if (this.address.fits(linked, 1)) this.refusePlan(Cnum.plans.ofWitness(witness, this.table));
+            const shown = { start: witness.start, roles: witness.processes };
+            if (this.isWithoutReads() && this.mostWithoutReads() < 2) {
+                if (this.address.fits(linked, 1)) this.refusePlan(shown);
                 return;
             }
-            const made = await (plan === CERTIFICATE ? this.planOfWitness(number) : this.planTree(this.limit || this.most));
+            const made = await (plan === CERTIFICATE ? this.planOfWitness(this.count()) : this.planTree(this.count()));
             if (!made || plan !== this.plan) return;
             this.agreement = made.agreement;
             this.tellPlan(made.plan);
-            await this.showPlan(made.plan, linked, Cnum.plans.ofWitness(witness, this.table));
+            await this.showPlan(made.plan, linked, shown);
         }
 
         // Takes the choice of a plan. Nothing else changes, so that the reader stays at the same place.
@@ -615,6 +674,7 @@ var Cnum = globalThis.Cnum || {};
             if (!(await this.findWithoutReads()) || plan !== this.plan) return;
             this.offerLimits();
             await this.showProtocol({ inputs: [], acts: [] });
+            this.address.keepSoon();
         }
 
         // Says how long a plan is, of what it is the shortest, whether processes look, and whether it is for objects that can be
@@ -681,7 +741,7 @@ var Cnum = globalThis.Cnum || {};
                 return;
             }
             const wanted = linked.inputs.length > 1 ? linked.inputs.length : this.limit;
-            const processes = Math.min(most, wanted || most);
+            const processes = Math.min(most, wanted || Cnum.sizes.usual(recoverable, most));
             at('come-back-said').textContent = say('come_back_said', { count: processes });
             const words = ['agree', '--recoverable', '--processes', String(processes), '--steps', '--as', 'json', '-'];
             this.agreement = { words, files: {}, table: this.table };
@@ -748,8 +808,8 @@ var Cnum = globalThis.Cnum || {};
         breakOff() {
             this.search.breakOff();
             if (!this.numbers.has(true)) this.numbers.say(true, say('search_broken_off'));
-            else if (this.comeBack && this.certificate) this.refuseLives(say('search_broken_off'));
-            else this.refuse(say('certificate_broken_off'));
+            else if (this.comeBack) this.refuseLives(say('search_broken_off'));
+            else this.refuse(say('search_broken_off'));
         }
 
         breakOffUnread() {
@@ -759,14 +819,14 @@ var Cnum = globalThis.Cnum || {};
         }
 
         async explainAll() {
-            const answer = await this.ask(this.search, this.whyWords('--all', '--as', 'json'));
+            const answer = await this.ask(this.search, ['why', '--all', '--as', 'json', '-']);
             if (!answer || answer.status === 0) return answer && JSON.parse(answer.stdout);
             this.notice(Cnum.inWords(answer));
             return null;
         }
 
         async printedWhy() {
-            return printed(await this.ask(this.search, this.whyWords()));
+            return printed(await this.ask(this.search, ['why', '-']));
         }
 
         async printedUnread() {
@@ -778,34 +838,13 @@ var Cnum = globalThis.Cnum || {};
             return runner.run([...before, ...words], table, files);
         }
 
-        // Checks a certificate of somebody else by this table.
-        async check(file) {
-            if (!file) return;
-            const claim = new Uint8Array(await file.arrayBuffer());
-            const words = Cnum.wordsOfCheck(new TextDecoder().decode(claim));
-            const answer = await this.ask(this.quick, [...words, '--as', 'json', CERTIFICATE], { [CERTIFICATE]: claim });
-            if (!answer) return;
-            const { name } = file;
-            const { ok, fault } = answer.stdout ? JSON.parse(answer.stdout) : {};
-            const told = ok ? say('certificate_ok', { name }) : say('certificate_wrong', { name, why: Cnum.inWords(answer, fault) });
-            at('claim-said').textContent = told;
-            this.notice(told);
-            at('claim-told').replaceChildren();
-            if (ok && words.includes(BY_STOCKS)) this.tellClaim(claim);
-        }
-
-        // Tells why a certificate by stocks that is right has its bounds. One of another kind tells of the number what why does.
-        tellClaim(claim) {
-            const printedClaim = async () => printed(await this.ask(this.quick, ['explain', BY_STOCKS, '--all', CERTIFICATE], { [CERTIFICATE]: claim }));
-            Cnum.showStockExplanation(at('claim-told'), JSON.parse(new TextDecoder().decode(claim)), this.table, printedClaim);
-        }
-
         async begin() {
             Cnum.explainWords(at('legend'));
-            await this.address.follow();
             const version = await this.quick.run(['--version']);
             const [, program, proof] = PROVED.exec(version.stdout) || ['', version.stdout.trim(), ''];
+            this.version = program;
             at('made-by').textContent = say('made_by', { program, proof });
+            await this.address.follow();
         }
     }
 
