@@ -47,6 +47,12 @@ var Cnum = globalThis.Cnum || {};
         return made;
     };
 
+    // Does something before the page is printed.
+    Cnum.beforePrint = act => {
+        window.addEventListener('beforeprint', act);
+        window.matchMedia('print').addEventListener('change', ({ matches }) => matches && act());
+    };
+
     // Gives the reader a text or a blob as a file.
     Cnum.offer = (name, content, type) => {
         const place = URL.createObjectURL(new Blob([content], { type }));

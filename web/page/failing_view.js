@@ -16,6 +16,7 @@ var Cnum = globalThis.Cnum || {};
             this.clear();
             document.addEventListener('keydown', event => this.key(event));
             window.addEventListener('resize', () => this.fit());
+            Cnum.beforePrint(() => this.position === 0 && this.moveTo(Infinity));
         }
 
         clear() {
@@ -181,8 +182,7 @@ var Cnum = globalThis.Cnum || {};
 
         fit() {
             if (!this.isDrawn || !this.place.getClientRects().length) return;
-            Cnum.fitLarge(this.columns.map(it => it.diagram), this.columns.map(it => it.states));
-            for (const { diagram } of this.columns) Cnum.holdHeads(diagram);
+            Cnum.fitLarge([], this.columns.flatMap(it => [it.diagram, it.states]));
         }
 
         // Arrow keys lead through the runs, wherever the focus is.

@@ -75,8 +75,9 @@ var Cnum = globalThis.Cnum || {};
         try: value => (value === 'yes' ? { isTried: true } : refuse('link_try', { value })),
     };
 
-    // The screen of a link that names none: that of the run, if it has one.
-    const screenOf = ({ acts, isTried }) => (acts.length || isTried ? 'run' : SCREENS[0]);
+    // The screens of views, and the screen of a link that names none: that of its view, or of the run, if it has one.
+    const OF_VIEWS = { run: 'run', pairs: 'change', exercise: 'print', solution: 'print' };
+    const screenOf = ({ acts, isTried, view }) => OF_VIEWS[view] || (acts.length || isTried ? 'run' : SCREENS[0]);
 
     // Whether a process can propose what stands in its field.
     Cnum.isInput = text => /^\d{1,20}$/.test(text) && BigInt(text) <= MOST_INPUT;
@@ -92,7 +93,7 @@ var Cnum = globalThis.Cnum || {};
         if (plan && !comeBack && (plan !== kinds.SHORTEST || acts.length)) parts.push(`plan=${plan}`);
         if (acts.length) parts.push(`inputs=${inputs.join(',')}`, `run=${acts.map(wordOf).join(',')}`);
         if (isTried) parts.push('try=yes');
-        if (screen && screen !== screenOf({ acts, isTried })) parts.push(`screen=${screen}`);
+        if (screen && screen !== screenOf({ acts, isTried, view })) parts.push(`screen=${screen}`);
         if (view) parts.push(`view=${view}`);
         if (lang && lang !== Cnum.FIRST_LANGUAGE) parts.push(`lang=${lang}`);
         return `#${parts.join('&')}`;

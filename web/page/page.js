@@ -403,7 +403,7 @@ var Cnum = globalThis.Cnum || {};
             at('why').replaceChildren();
             this.picture.clear();
             this.claims.clear();
-            for (const id of ['recoverable', 'bound', 'come-back-said', 'plan-said', 'limit-said']) at(id).textContent = '';
+            for (const id of ['recoverable', 'bound', 'certificate-said', 'come-back-said', 'plan-said', 'limit-said']) at(id).textContent = '';
             for (const id of ['plan-part', 'limit-part', 'try-part', 'legend']) at(id).hidden = true;
             at('download').disabled = at('picture-svg').disabled = at('picture-png').disabled = true;
             this.protocol.clear(why);
@@ -431,7 +431,11 @@ var Cnum = globalThis.Cnum || {};
             this.tellNumber(JSON.parse(why.stdout));
             if (!(await this.findWithoutReads())) return;
             this.offerLimits();
-            if (this.reads) await this.showReasons();
+            const example = await this.exampleOf(this.told);
+            if (!example) return;
+            this.reasons.set(true, example);
+            this.sheet.show({ told: example, text: this.table });
+            if (this.reads) this.showReasons();
             await this.showChosen(linked);
             if (!this.reads) await others;
         }
@@ -439,15 +443,14 @@ var Cnum = globalThis.Cnum || {};
         // Takes what `why` tells of objects that can be read.
         tellNumber(told) {
             this.told = told;
-            this.reasons.set(true, told);
             this.certified = told.witness ? told.witness.processes.length : 1;
             at('download').disabled = false;
+            at('certificate-said').textContent = this.certified < Math.min(MOST_PROCESSES, Cnum.leastOf(told.number)) ? say('evidence_apart', this) : '';
             this.numbers.tell(true, told.number);
             this.tellBound();
             this.failing.show(told, this.table);
             at('try-part').hidden = !this.failing.isThere();
             at('try-anyway').textContent = this.failing.title();
-            this.sheet.show({ told, text: this.table });
         }
 
         // The protocol for the processes that are chosen.
@@ -511,10 +514,8 @@ var Cnum = globalThis.Cnum || {};
         }
 
         // Shows why the number for objects that can be read is what it is.
-        async showReasons() {
-            const told = this.reasons.get(true);
-            const example = await this.exampleOf(told);
-            if (!this.reads || told !== this.told) return;
+        showReasons() {
+            const example = this.reasons.get(true);
             const more = { all: () => this.explainAll(), printed: () => this.printedWhy(), tryAnyway: () => this.tryAnyway(true) };
             Cnum.showExplanation(at('why'), example, { ...more, anyway: this.failing.title() });
             Cnum.explainWords(at('why'));
@@ -525,7 +526,7 @@ var Cnum = globalThis.Cnum || {};
             const count = Cnum.sizes.usual(told.number, this.certified);
             if (count === this.certified || !told.witness) return told;
             const few = await this.found(['why', '--limit', String(count), '--as', 'json', '-']);
-            return few ? { ...told, witness: JSON.parse(few.stdout).witness } : told;
+            return few && { ...told, witness: JSON.parse(few.stdout).witness };
         }
 
         // The same without reads.
@@ -558,7 +559,7 @@ var Cnum = globalThis.Cnum || {};
         // Shows why the number that is chosen is what it is, or that this is searched for, or why there are no reasons.
         explain() {
             const { reads } = this;
-            const isKnown = reads ? this.told && !this.refused : this.numbers.has(false);
+            const isKnown = reads ? this.reasons.has(true) : this.numbers.has(false);
             const isBusy = (reads ? this.search : this.unread).isBusy();
             this.sayOfReasons(reads && this.refused ? this.refused : say(isKnown || isBusy ? 'searching' : 'search_broken_off'));
             if (isKnown && reads) this.showReasons();
@@ -612,12 +613,12 @@ var Cnum = globalThis.Cnum || {};
 
         // What the number of processes of the protocol depends on.
         sizes() {
-            const { certified, comeBack, reads, limit, plan } = this;
+            const { certified, comeBack, limit, plan } = this;
             const number = this.told.number;
             const isWithoutReads = this.isWithoutReads();
             const unread = isWithoutReads && this.withoutReads ? this.mostWithoutReads() : null;
             const most = Cnum.sizes.mostOf({ number, certified, comeBack, isOfCertificate: plan === CERTIFICATE, unread });
-            return { number, certified, comeBack, reads, isWithoutReads, most, limit: Cnum.sizes.chosen(limit, number, most) };
+            return { number, comeBack, isWithoutReads, most, limit: Cnum.sizes.chosen(limit, number, most) };
         }
 
         // For how many processes the protocol is.

@@ -18,6 +18,7 @@ var Cnum = globalThis.Cnum || {};
             this.turn = 0;
             this.clear('');
             window.addEventListener('resize', () => this.view && this.view.fit());
+            Cnum.beforePrint(() => this.view && this.view.layOutForPaper());
         }
 
         clear(why) {

@@ -6,6 +6,7 @@ var Cnum = globalThis.Cnum || {};
     'use strict';
 
     const { button, element, lives, run, say, tableOf, wide } = Cnum;
+    const ON_PAPER = 700; // the width of a sheet, in points of a picture
 
     // What an event changed, as a text in brackets: the state of an object, or what a process remembers. An event that
     // changed neither has none.
@@ -82,8 +83,15 @@ var Cnum = globalThis.Cnum || {};
         }
 
         pictureOfRun() {
-            const saving = this.savings('run', () => this.diagram.firstElementChild);
-            return element('div', { class: 'of-run' }, element('h3', {}, say('diagram')), this.diagram, saving);
+            this.rows = element('div', { class: 'rows-on-paper', 'aria-hidden': 'true' });
+            return element('div', { class: 'of-run' }, element('h3', {}, say('diagram')), this.diagram, this.rows);
+        }
+
+        // The run for paper, in rows that are not made smaller.
+        layOutForPaper() {
+            const events = this.protocol.events.slice(0, this.protocol.position);
+            const placed = Cnum.placeRun(events, this.protocol.inputs, Cnum.widthOf);
+            this.rows.replaceChildren(...Cnum.rowsOfRun(this.diagram.firstElementChild, placed, ON_PAPER));
         }
 
         // The object on which the last operation was, in the picture of the states.
@@ -100,7 +108,8 @@ var Cnum = globalThis.Cnum || {};
             const objects = element('div', {}, element('h3', {}, ...Cnum.marked('nodes')), this.nodes, ...kept);
             const isMany = this.plan.processes > 2;
             const figures = element('div', { class: 'figures' }, ...(isMany ? [this.tournament()] : []), objects);
-            return Cnum.disclosure(say(isMany ? 'figures' : 'figures_of_two'), figures);
+            const saving = this.savings('run', () => this.diagram.firstElementChild);
+            return Cnum.disclosure(say(isMany ? 'figures' : 'figures_of_two'), element('p', { class: 'hint' }, say('save_run')), saving, figures);
         }
 
         // The picture is as wide as its place at most, so that nothing of it is cut.

@@ -18,8 +18,9 @@ var Cnum = globalThis.Cnum || {};
         // `changed` is called when the reader has chosen something.
         constructor(changed) {
             this.changed = changed;
+            document.body.classList.toggle('framed', window.top !== window);
             this.buttons = SCREENS.map(name => button(say(`screen_${name}`), () => this.choose(name), { 'data-screen': name }));
-            at('bar').append(...this.buttons);
+            at('screens').append(...this.buttons);
             at('large').addEventListener('click', () => this.toggleLarge());
             document.addEventListener('keydown', event => this.key(event));
             this.open(SCREENS[0]);

@@ -24,15 +24,14 @@ var Cnum = globalThis.Cnum || {};
         return within === usual(number, most) ? null : within;
     }
 
-    // What is said of the number of processes. Why is for as many as can agree, whatever number the protocol is for.
-    function inWords({ number, most, limit, certified, comeBack, isWithoutReads, reads }) {
+    // What is said of the number of processes.
+    function inWords({ number, most, limit, comeBack, isWithoutReads }) {
         const count = limit || usual(number, most);
         if (most < 2 || comeBack) return '';
         if (isWithoutReads) return say(limit ? 'evidence_chosen' : count < most ? 'evidence_first' : 'evidence_unread', { count, most });
         if (limit) return say('evidence_chosen', { count, most });
         if (count < most) return say('evidence_first', { count, most });
-        const apart = reads && certified < most ? [say('evidence_apart', { certified })] : [];
-        return [say(most < Cnum.leastOf(number) ? 'evidence_most' : 'evidence_whole', { count }), ...apart].join(' ');
+        return say(most < Cnum.leastOf(number) ? 'evidence_most' : 'evidence_whole', { count });
     }
 
     Cnum.sizes = { MOST, mostOf, usual, chosen, inWords };

@@ -49,7 +49,7 @@ var Cnum = globalThis.Cnum || {};
             const texts = isShort && event.kind !== 'doubts' ? [TEXTS[event.kind](event)[0], ''] : TEXTS[event.kind](event);
             const width = Math.max(LEAST, ...texts.map(it => widthOf(it) + GAP));
             right += width;
-            return { event, texts, x: right - width / 2, y: TOP + apart * event.process };
+            return { event, texts, right, x: right - width / 2, y: TOP + apart * event.process };
         });
         const lines = heads.map((head, process) => {
             const last = marks.filter(it => it.event.process === process).pop();
@@ -57,6 +57,34 @@ var Cnum = globalThis.Cnum || {};
             return { head, from: begin, to: hasEnded ? last.x : Math.max(right, begin + EMPTY) + GAP, y: TOP + apart * process };
         });
         return { marks, lines, width: Math.max(right, begin + EMPTY) + 2 * GAP, height: TOP + apart * (inputs.length - 1) + 44 };
+    };
+
+    // The parts of a run, each no wider than this: where each begins and ends. It ends between two steps.
+    Cnum.partsOfRun = function ({ marks, lines }, width) {
+        const begin = lines[0].from;
+        const room = width - begin;
+        const parts = [];
+        let from = begin;
+        marks.forEach(({ right }, index) => {
+            const before = index ? marks[index - 1].right : begin;
+            if (right - from <= room || before === from) return;
+            parts.push({ from, to: before });
+            from = before;
+        });
+        return [...parts, { from, to: Math.max(marks.length ? marks[marks.length - 1].right : begin, lines[0].to) + GAP }];
+    };
+
+    // A run in rows for paper, one below the other: the picture of each part, with the names of the processes before it.
+    Cnum.rowsOfRun = function (picture, placed, width) {
+        const begin = placed.lines[0].from;
+        return Cnum.partsOfRun(placed, width).map(({ from, to }) => {
+            const copy = picture.cloneNode(true);
+            const left = from - begin;
+            Cnum.setAll(copy, { viewBox: `${left} 0 ${to - left} ${placed.height}`, width: to - left });
+            copy.removeAttribute('style');
+            copy.querySelector('.heads').setAttribute('transform', `translate(${left},0)`);
+            return copy;
+        });
     };
 
     const square = (x, y, half, more) => svgElement('rect', { x: x - half, y: y - half, width: 2 * half, height: 2 * half, ...more });
