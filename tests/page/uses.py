@@ -228,7 +228,7 @@ class Use:
 
     def limit(self, limit):
         """Chooses the number of processes of the protocol, if more can agree."""
-        self.do(f"Cnum.page.limit = {limit}; await Cnum.page.refresh();")
+        self.do(f"Cnum.page.choice.limit = {limit}; await Cnum.page.refresh();")
 
     def edit(self, change, *words):
         """Changes the table by one of Cnum.edits."""

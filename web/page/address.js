@@ -14,7 +14,7 @@ var Cnum = globalThis.Cnum || {};
     class Address {
         // `pageWith` gives the page as a file with a link in it, if it can be saved so.
         constructor(page, pageWith) {
-            Object.assign(this, { page, pageWith, link: null, turn: 0, visit: 0 });
+            Object.assign(this, { page, pageWith, link: null, turn: 0, kept: Promise.resolve() });
             at('copy-link').addEventListener('click', () => this.copy());
             at('save-page').addEventListener('click', () => this.savePage());
             at('save-page').hidden = !pageWith;
@@ -27,9 +27,8 @@ var Cnum = globalThis.Cnum || {};
             if (location.hash === this.link) return;
             const isFirst = this.link === null;
             this.link = location.hash;
-            this.turn++;
+            const turn = ++this.turn;
             clearTimeout(this.keeping);
-            const visit = ++this.visit;
             const linked = await Cnum.linkedBy(location.hash || Cnum.savedLink());
             if (linked.fault) {
                 this.refuse(linked.fault);
@@ -39,7 +38,7 @@ var Cnum = globalThis.Cnum || {};
                 this.isFollowing = true; // what is shown now is the entry that the browser is at
                 this.page.showScreen(linked);
                 await this.page.showLinked(linked, isFirst);
-                if (visit !== this.visit) return;
+                if (turn !== this.turn) return;
                 await this.keep();
                 this.isFollowing = false;
             }
@@ -69,24 +68,27 @@ var Cnum = globalThis.Cnum || {};
             this.keeping = setTimeout(() => this.keep(), BEFORE_KEEPING);
         }
 
-        // What is shown stands in the address, unless it has changed again before.
-        async keep() {
+        // What is shown now stands in the address, after what was shown before; but nothing of what was shown before another
+        // address came.
+        keep() {
             clearTimeout(this.keeping);
-            const turn = ++this.turn;
-            if (at('content').hidden) return;
+            if (at('content').hidden) return this.kept;
+            const { turn } = this;
+            const { at: place } = this.page.past;
             const { view, ...rest } = this.page.linkContent();
             const shown = { ...rest, lang: Cnum.language };
-            const link = await Cnum.linkOf({ ...shown, view });
-            const whole = await Cnum.linkOf(shown);
-            if (turn !== this.turn) return;
-            at('whole-link').href = whole;
-            this.put(link, shown.text);
+            this.kept = this.kept.then(async () => {
+                const [link, whole] = [await Cnum.linkOf({ ...shown, view }), await Cnum.linkOf(shown)];
+                if (turn !== this.turn) return;
+                at('whole-link').href = whole;
+                this.put(link, { text: shown.text, place });
+            });
+            return this.kept;
         }
 
         // A link that says something new is one more entry of the history; letters that are typed one after another make one. A
         // browser that takes no more entries keeps the last.
-        put(link, text) {
-            const { at: place } = this.page.past;
+        put(link, { text, place }) {
             const isTyped = text !== this.text && place === this.place;
             const isSame = link === this.link || this.isFollowing || isTyped;
             Object.assign(this, { link, text, place });

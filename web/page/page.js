@@ -10,7 +10,7 @@ var Cnum = globalThis.Cnum || {};
     const BEFORE_TEAMS = 400;
     const FIRST_EXAMPLE = 'types/test_and_set';
     const PROVED = /^(.*?), proved (by .*)\n$/;
-    const { SHORTEST, CERTIFICATE, WITHOUT_READS: PLAN_WITHOUT_READS } = Cnum.plans.kinds;
+    const { SHORTEST, CERTIFICATE } = Cnum.plans.kinds;
     const WITHOUT_READS = '--without-read';
     const MOST_PROCESSES = Cnum.sizes.MOST;
 
@@ -20,17 +20,14 @@ var Cnum = globalThis.Cnum || {};
     class Page {
         // `pageWith` gives the page as a file with a link in it, if it can be saved so.
         constructor(module, pageWith) {
-            this.module = module;
             this.quick = new Cnum.Runner(module);
             this.search = new Cnum.Runner(module);
             this.adversary = new Cnum.Runner(module);
             this.unread = new Cnum.Runner(module); // of searches for objects that are not read, which may take long
-            this.beside = new Cnum.Runner(module); // of comparisons
+            this.others = new Cnum.OtherTables(module, { reads: () => this.reads, notice: text => this.notice(text) });
             this.round = 0;
             this.past = new Cnum.Past();
-            this.limit = null; // what was chosen for the processes of the protocol, if another number than the usual one
-            this.comeBack = false; // whether the processes of the protocol crash and come back
-            this.plan = SHORTEST; // the kind of plan of the protocol
+            this.choice = new Cnum.PlanChoice(this);
             this.reads = true; // whether reasons, comparisons and links are for objects that can be read
             this.numbers = new Cnum.TwoNumbers({ choose: reads => this.chooseReads(reads), openWhy: reads => this.openReasons(reads) });
             this.editor = new Cnum.Editor(at('table'), at('marks'), at('flaws'));
@@ -41,7 +38,7 @@ var Cnum = globalThis.Cnum || {};
             );
             this.examples = new Cnum.ExampleSearch(
                 { field: at('example'), list: at('examples'), number: at('example-number') },
-                { choose: path => this.choose(path), classify: paths => this.bothNumbers(paths.map(path => examples.get(path).text)) },
+                { choose: path => this.choose(path), classify: paths => this.others.bothNumbers(paths.map(path => examples.get(path).text)) },
             );
             this.comparison = new Cnum.Comparison(at('comparison'), this.forComparison());
             this.protocol = new Cnum.Protocol(at('protocol'), this.forProtocol());
@@ -56,9 +53,9 @@ var Cnum = globalThis.Cnum || {};
         // What comparisons need of the page.
         forComparison() {
             return {
-                numbers: texts => this.numbersOf(this.beside, texts),
-                pairs: text => (this.reads ? this.pairsOf(text) : this.pairsWithoutReads(text)),
-                breakOff: () => this.beside.breakOff(),
+                numbers: texts => this.others.numbersOf(this.others.beside, texts),
+                pairs: text => (this.reads ? this.others.pairsOf(text) : this.others.pairsWithoutReads(text)),
+                breakOff: () => this.others.breakOff(),
                 take: text => this.edit(text),
                 openWhy: text => this.openWhy(text),
             };
@@ -67,8 +64,8 @@ var Cnum = globalThis.Cnum || {};
         // What the protocol needs of the page.
         forProtocol() {
             return {
-                agree: words => this.agree(this.quick, words),
-                tryOut: words => this.agree(this.adversary, words),
+                agree: words => this.choice.agree(this.quick, words),
+                tryOut: words => this.choice.agree(this.adversary, words),
                 breakOff: () => this.adversary.breakOff(),
                 next: () => Cnum.run.movesOf(this.table),
                 picture: plan => Cnum.pictureOf(this.graph, plan),
@@ -119,12 +116,12 @@ var Cnum = globalThis.Cnum || {};
                 typed = setTimeout(() => this.refresh(), AFTER_TYPING);
             });
             at('own').addEventListener('click', () => this.edit(Cnum.FIRST_TABLE));
-            at('limit').addEventListener('change', () => this.chooseLimit(Number(at('limit').value)));
+            at('limit').addEventListener('change', () => this.choice.chooseLimit(Number(at('limit').value)));
             at('come-back').addEventListener('change', () => {
-                this.comeBack = at('come-back').checked;
+                this.choice.comeBack = at('come-back').checked;
                 this.refresh();
             });
-            at('plan').addEventListener('change', () => this.choosePlan(at('plan').value));
+            at('plan').addEventListener('change', () => this.choice.choosePlan(at('plan').value));
             at('try-anyway').addEventListener('click', () => this.tryAnyway(true));
             at('skip').addEventListener('click', event => this.skipTo(event, 'why', 'number-part'));
             at('skip-protocol').addEventListener('click', event => this.skipTo(event, 'run', 'protocol-part'));
@@ -221,14 +218,6 @@ var Cnum = globalThis.Cnum || {};
             at(part).focus();
         }
 
-        // Shows the protocol for another number of processes. Nothing else changes.
-        async chooseLimit(limit) {
-            this.limit = limit;
-            this.offerLimits();
-            await this.showChosen({ inputs: [], acts: [] });
-            this.address.keepSoon();
-        }
-
         // Shows the run that fails if one process more tries it, or the protocol again.
         tryAnyway(isTried) {
             this.isTried = isTried && this.failing.isThere();
@@ -242,7 +231,7 @@ var Cnum = globalThis.Cnum || {};
 
         // The certificate for as many processes as the program can, or as were chosen.
         async certificateText() {
-            const limit = this.limit && this.limit < this.certified ? ['--limit', String(this.limit)] : [];
+            const limit = this.choice.limit && this.choice.limit < this.certified ? ['--limit', String(this.choice.limit)] : [];
             const find = await this.ask(this.search, ['find', ...limit]);
             return find && find.status === 0 ? find.stdout : '';
         }
@@ -262,49 +251,6 @@ var Cnum = globalThis.Cnum || {};
             await this.refresh();
         }
 
-        // What a command prints beside those on the table that is shown. If it ends with a fault, the page says so, and
-        // the answer is null, as JSON; so it is if the command is broken off.
-        async aside(runner, words, stdin, files) {
-            const answer = await runner.run(words, stdin, files);
-            if (answer.status === 0) return answer.stdout;
-            if (!answer.isBrokenOff) this.notice(Cnum.inWords(answer));
-            return 'null';
-        }
-
-        // What `classify` tells of these tables, with these options; or null.
-        async classified(runner, texts, options) {
-            const files = Object.fromEntries(texts.map((text, index) => [String(index), text]));
-            const values = Cnum.valuesOf(await this.aside(runner, ['classify', ...options, '--as', 'json', ...Object.keys(files)], '', files));
-            return values[0] && values;
-        }
-
-        // The numbers of these tables, for objects that can be read or without reads, as is chosen; or null.
-        async numbersOf(runner, texts) {
-            const { reads } = this;
-            const values = await this.classified(runner, texts, reads ? [] : [WITHOUT_READS]);
-            return values && values.map(it => (reads ? it.number : it.without_read));
-        }
-
-        // The numbers of these tables as pairs, for objects that can be read and without reads; or null.
-        async bothNumbers(texts) {
-            const runner = new Cnum.Runner(this.module);
-            const values = await this.classified(runner, texts, [WITHOUT_READS]);
-            runner.end();
-            return values && values.map(it => ({ read: it.number, unread: it.without_read }));
-        }
-
-        // What `pairs` tells of a table, or null.
-        async pairsOf(text) {
-            return JSON.parse(await this.aside(this.beside, ['pairs', '--as', 'json', '-'], text));
-        }
-
-        // The same without reads. The command has no such option, so each table with one or two operations is classified.
-        async pairsWithoutReads(text) {
-            const sets = Cnum.setsUpToTwo(text);
-            const numbers = await this.numbersOf(this.beside, [text, ...sets.map(it => it.text)]);
-            return numbers && Cnum.pairsToldBy(sets, numbers);
-        }
-
         // Shows what a link says. If it has no limit, there are as many processes as it has inputs, and if it has neither but a
         // run, as many as can be. Those that come back may be fewer. A run with no plan is of the certificate: older pages made
         // such links. If only the run is another one, nothing is searched anew.
@@ -315,14 +261,15 @@ var Cnum = globalThis.Cnum || {};
             const ofRun = linked.inputs.length > 1 ? linked.inputs.length : linked.acts.length ? MOST_PROCESSES : null;
             const limit = linked.limit || (comeBack ? null : ofRun);
             const reads = linked.reads !== false;
-            const isSame = !isFirst && text === this.table && comeBack === this.comeBack && plan === this.plan && reads === this.reads;
+            const isSame = !isFirst && text === this.table && comeBack === this.choice.comeBack && plan === this.choice.plan && reads === this.reads;
             const willTry = Boolean(linked.isTried);
-            Object.assign(this, { comeBack, reads, plan, limit });
+            Object.assign(this.choice, { comeBack, plan, limit });
+            this.reads = reads;
             at('come-back').checked = comeBack;
             at('plan').value = plan;
             if (isSame && this.told) {
-                this.offerLimits();
-                await this.showChosen(linked);
+                this.choice.offerLimits();
+                await this.choice.showChosen(linked);
             } else {
                 this.past.goTo(text);
                 this.text = text;
@@ -335,7 +282,8 @@ var Cnum = globalThis.Cnum || {};
         linkContent() {
             const example = this.example();
             const { inputs } = this.protocol;
-            const { text, limit, comeBack, reads, plan, isTried } = this;
+            const { text, reads, isTried } = this;
+            const { limit, comeBack, plan } = this.choice;
             const { screen, view } = this.screens;
             const acts = this.protocol.actsSoFar();
             return { example: example && example.path, text, limit, comeBack, reads, plan, inputs, acts, isTried, screen, view };
@@ -344,7 +292,7 @@ var Cnum = globalThis.Cnum || {};
         // Ends what runs, so that nothing is shown any more.
         end() {
             this.round++;
-            for (const it of [this.search, this.adversary, this.unread, this.beside]) it.breakOff();
+            for (const it of [this.search, this.adversary, this.unread, this.others]) it.breakOff();
             this.protocol.end();
         }
 
@@ -397,7 +345,7 @@ var Cnum = globalThis.Cnum || {};
             this.numbers.clear(why);
             this.reasons = new Map(); // what `why` told of the numbers, by whether the object can be read
             this.refused = ''; // why there is no evidence, if there is none
-            this.withoutReads = null; // what `show` answered of the plan without reads for as many processes as it can
+            this.choice.forget();
             this.graph = null;
             at('running').hidden = at('running-without').hidden = true;
             at('why').replaceChildren();
@@ -429,14 +377,14 @@ var Cnum = globalThis.Cnum || {};
             const why = await this.found(['why', '--as', 'json', '-']);
             if (!why) return;
             this.tellNumber(JSON.parse(why.stdout));
-            if (!(await this.findWithoutReads())) return;
-            this.offerLimits();
+            if (!(await this.choice.findWithoutReads())) return;
+            this.choice.offerLimits();
             const example = await this.exampleOf(this.told);
             if (!example) return;
             this.reasons.set(true, example);
             this.sheet.show({ told: example, text: this.table });
             if (this.reads) this.showReasons();
-            await this.showChosen(linked);
+            await this.choice.showChosen(linked);
             if (!this.reads) await others;
         }
 
@@ -451,16 +399,6 @@ var Cnum = globalThis.Cnum || {};
             this.failing.show(told, this.table);
             at('try-part').hidden = !this.failing.isThere();
             at('try-anyway').textContent = this.failing.title();
-        }
-
-        // The protocol for the processes that are chosen.
-        async showChosen(linked) {
-            if (this.comeBack) {
-                const recoverable = this.recoverable || (await this.findRecoverable());
-                if (recoverable) await this.showLives(linked, recoverable);
-            } else {
-                await this.showProtocol(linked);
-            }
         }
 
         // What the number with reads says of objects that cannot be read: nothing more can agree through them.
@@ -495,7 +433,7 @@ var Cnum = globalThis.Cnum || {};
             const answer = await this.timed(this.ask(this.search, ['classify', '--recoverable', '--as', 'json', '-']));
             if (!answer) return null;
             if (answer.status === 0) return this.tellRecoverable(JSON.parse(answer.stdout).recoverable);
-            this.refuseLives(Cnum.inWords(answer));
+            this.choice.refuseLives(Cnum.inWords(answer));
             return null;
         }
 
@@ -551,7 +489,7 @@ var Cnum = globalThis.Cnum || {};
             this.tellChoice();
             if (at('picture').firstElementChild) this.redraw();
             this.explain();
-            if (this.told) this.offerLimits();
+            if (this.told) this.choice.offerLimits();
             this.comparison.again();
             this.address.keepSoon();
         }
@@ -591,182 +529,12 @@ var Cnum = globalThis.Cnum || {};
             at('protocol-of').hidden = reads;
         }
 
-        // Whether the protocol is the plan without reads.
-        isWithoutReads() {
-            return this.plan === PLAN_WITHOUT_READS && !this.comeBack && this.certified > 1;
-        }
-
-        // Finds the plan without reads for as many processes as it can, if it is chosen. The answer is false if the search is
-        // broken off, or another table has come since.
-        async findWithoutReads() {
-            if (!this.isWithoutReads() || this.withoutReads) return true;
-            const answer = await this.timed(this.ask(this.search, Cnum.plans.commandsOf(this.plan).show));
-            if (answer) this.withoutReads = answer;
-            return Boolean(answer);
-        }
-
-        // For how many processes that plan is, and 1 if there is none.
-        mostWithoutReads() {
-            const { status, stdout } = this.withoutReads;
-            return status === 0 ? JSON.parse(stdout).processes : 1;
-        }
-
-        // What the number of processes of the protocol depends on.
-        sizes() {
-            const { certified, comeBack, limit, plan } = this;
-            const number = this.told.number;
-            const isWithoutReads = this.isWithoutReads();
-            const unread = isWithoutReads && this.withoutReads ? this.mostWithoutReads() : null;
-            const most = Cnum.sizes.mostOf({ number, certified, comeBack, isOfCertificate: plan === CERTIFICATE, unread });
-            return { number, comeBack, isWithoutReads, most, limit: Cnum.sizes.chosen(limit, number, most) };
-        }
-
-        // For how many processes the protocol is.
-        count() {
-            const { number, most, limit } = this.sizes();
-            return limit || Cnum.sizes.usual(number, most);
-        }
-
-        // Says for how many processes the protocol is, and lets one choose another number.
-        offerLimits() {
-            const sizes = this.sizes();
-            this.limit = sizes.limit;
-            const options = Array.from({ length: Math.max(0, sizes.most - 1) }, (_, index) => element('option', {}, String(index + 2)));
-            at('limit').replaceChildren(...options);
-            at('limit').value = this.count();
-            at('limit-part').hidden = sizes.most < 3;
-            at('limit-said').textContent = Cnum.sizes.inWords(sizes);
-        }
-
         // Says why there is no evidence, and so no protocol.
         refuse(why) {
             this.draw(null);
             this.refused = why;
             if (this.reads) this.sayOfReasons(why);
             this.protocol.clear(why);
-        }
-
-        // The protocol for as many processes as are chosen: the shortest, that of the certificate's witness, or the shortest
-        // without reads.
-        async showProtocol(linked) {
-            const { witness } = this.told;
-            if (!witness) {
-                if (!this.address.fits(linked, 1)) return;
-                this.draw(null);
-                this.protocol.clear(say('nobody'));
-                return;
-            }
-            const { plan } = this;
-            const shown = { start: witness.start, roles: witness.processes };
-            if (this.isWithoutReads() && this.mostWithoutReads() < 2) {
-                if (this.address.fits(linked, 1)) this.refusePlan(shown);
-                return;
-            }
-            const made = await (plan === CERTIFICATE ? this.planOfWitness(this.count()) : this.planTree(this.count()));
-            if (!made || plan !== this.plan) return;
-            this.agreement = made.agreement;
-            this.tellPlan(made.plan);
-            await this.showPlan(made.plan, linked, shown);
-        }
-
-        // Takes the choice of a plan. Nothing else changes, so that the reader stays at the same place.
-        async choosePlan(plan) {
-            this.plan = plan;
-            if (!(await this.findWithoutReads()) || plan !== this.plan) return;
-            this.offerLimits();
-            await this.showProtocol({ inputs: [], acts: [] });
-            this.address.keepSoon();
-        }
-
-        // Says how long a plan is, of what it is the shortest, whether processes look, and whether it is for objects that can be
-        // read only.
-        tellPlan(plan) {
-            const { most, nodes, reads } = plan;
-            at('plan-part').hidden = false;
-            const size = say(nodes.length === 1 ? 'plan_of_one' : 'plan_size', { most, objects: nodes.length });
-            const least = Cnum.plans.leastOf(this.plan);
-            const looks = Cnum.plans.looks(plan) ? [' ', say('plan_looks')] : [];
-            at('plan-said').replaceChildren(size, ...(least ? [' ', ...Cnum.marked(least)] : []), ...looks);
-            Cnum.explainWords(at('plan-said'));
-            at('protocol-of').textContent = say(reads ? 'protocol_reads' : 'protocol_without_reads');
-        }
-
-        // Says why there is no plan without reads. The reader can choose another one.
-        refusePlan(witness) {
-            at('plan-part').hidden = false;
-            at('plan-said').textContent = at('protocol-of').textContent = '';
-            this.draw(witness);
-            this.protocol.clear(Cnum.plans.whyNone(this.withoutReads));
-        }
-
-        // The plan tree for so many processes, with what runs it; or null. That without reads is known for as many as it can.
-        async planTree(number) {
-            const { show, agree } = Cnum.plans.commandsOf(this.plan, number);
-            const isKnown = this.isWithoutReads() && number === this.mostWithoutReads();
-            const answer = isKnown ? this.withoutReads : await this.found(show);
-            const agreement = { words: agree, files: {}, table: this.table };
-            return answer && { plan: Cnum.plans.ofTree(JSON.parse(answer.stdout)), agreement };
-        }
-
-        // The plan of the certificate for this number alone, with what runs it; or null. That certificate has the same witness and
-        // no collisions. Each step checks it anew, and so takes no longer if there are many collisions.
-        async planOfWitness(number) {
-            const find = await this.ask(this.search, ['find', '--limit', String(number)]);
-            if (!find) return null;
-            const files = { [CERTIFICATE]: find.stdout };
-            const show = await this.ask(this.search, ['show', '--as', 'json', CERTIFICATE], files);
-            const agreement = { words: ['agree', '--steps', '--as', 'json', CERTIFICATE], files, table: this.table };
-            return show && { plan: Cnum.plans.ofCertificate(JSON.parse(show.stdout)), agreement };
-        }
-
-        // Shows a plan, and in the picture of the states the start and the teams of this witness.
-        async showPlan(plan, linked, witness) {
-            if (!this.address.fits(linked, plan.processes)) return;
-            this.draw(witness);
-            await this.protocol.show(plan, linked.inputs, linked.acts);
-        }
-
-        // Says why there is no protocol of processes that come back.
-        refuseLives(why) {
-            this.draw(null);
-            at('come-back-said').textContent = '';
-            this.protocol.clear(why);
-        }
-
-        // The protocol of processes that crash and come back, as many as a link has or as were chosen, if so many can agree.
-        // The program tells its plan by the steps of each process alone.
-        async showLives(linked, recoverable) {
-            const most = Math.min(MOST_PROCESSES, Cnum.leastOf(recoverable));
-            if (most < 2) {
-                if (this.address.fits(linked, 1)) this.refuseLives(say('nobody_comes_back'));
-                return;
-            }
-            const wanted = linked.inputs.length > 1 ? linked.inputs.length : this.limit;
-            const processes = Math.min(most, wanted || Cnum.sizes.usual(recoverable, most));
-            at('come-back-said').textContent = say('come_back_said', { count: processes });
-            const words = ['agree', '--recoverable', '--processes', String(processes), '--steps', '--as', 'json', '-'];
-            this.agreement = { words, files: {}, table: this.table };
-            const runs = await this.runsAlone(processes);
-            if (!runs) return;
-            const plan = Cnum.lives.planOf(runs);
-            at('protocol-of').textContent = say('protocol_reads');
-            await this.showPlan(plan, linked, plan.nodes[0]);
-        }
-
-        // The steps of each process alone. If they do not come, the answer is null.
-        async runsAlone(processes) {
-            const { scheduleOf, stepOf } = Cnum.run;
-            const most = Cnum.lives.mostSteps(processes);
-            const runs = [];
-            for (let process = 0; process < processes; process++) {
-                const acts = Array(most).fill(stepOf(process));
-                const words = [...this.agreement.words, Cnum.firstInputs(processes).join(','), scheduleOf(acts)];
-                const answer = await this.timed(this.ask(this.search, words));
-                if (answer && answer.status !== 0) this.refuseLives(Cnum.inWords(answer));
-                if (!answer || answer.status !== 0) return null;
-                runs.push(Cnum.exactValueOf(answer.stdout).steps);
-            }
-            return runs;
         }
 
         // The picture, with the start and the teams of this witness, if there is one.
@@ -809,7 +577,7 @@ var Cnum = globalThis.Cnum || {};
         breakOff() {
             this.search.breakOff();
             if (!this.numbers.has(true)) this.numbers.say(true, say('search_broken_off'));
-            else if (this.comeBack) this.refuseLives(say('search_broken_off'));
+            else if (this.choice.comeBack) this.choice.refuseLives(say('search_broken_off'));
             else this.refuse(say('search_broken_off'));
         }
 
@@ -834,11 +602,6 @@ var Cnum = globalThis.Cnum || {};
             return printed(await this.ask(this.unread, ['why', WITHOUT_READS, '-']));
         }
 
-        agree(runner, words) {
-            const { words: before, table, files } = this.agreement;
-            return runner.run([...before, ...words], table, files);
-        }
-
         async begin() {
             Cnum.explainWords(at('legend'));
             const version = await this.quick.run(['--version']);
@@ -846,8 +609,7 @@ var Cnum = globalThis.Cnum || {};
             this.version = program;
             at('made-by').textContent = say('made_by', { program, proof });
             await this.address.follow();
-        }
-    }
+        }    }
 
     // What the program prints, or why it does not.
     const printed = answer => answer && (answer.status === 0 ? answer.stdout : Cnum.inWords(answer));
