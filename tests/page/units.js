@@ -6,7 +6,7 @@ const { describe, it } = require('node:test');
 const vm = require('node:vm');
 
 const WEB = path.join(__dirname, '../../web');
-const PARTS = ['texts_en', 'texts_de', 'texts', 'elements', 'answers', 'plans', 'run', 'lives', 'link', 'table_text', 'table_edits', 'flaw_places', 'flaw_texts', 'notes'];
+const PARTS = ['texts_en', 'texts_de', 'texts', 'elements', 'answers', 'plans', 'run', 'lives', 'link', 'table_text', 'table_edits', 'lasting_table', 'flaw_places', 'flaw_texts', 'notes'];
 PARTS.push('past', 'example_search', 'comparison', 'schedules', 'space_time', 'failing_run', 'tournament', 'dot', 'points', 'layout', 'large', 'sizes');
 PARTS.push('reason_parts', 'explanation', 'picture', 'two_runs', 'unread_explanation', 'stock_explanation');
 
@@ -655,6 +655,21 @@ describe('the number of processes of a protocol', () => {
         assert.equal(said({ number: 3, most: 3, certified: 3 }), 'The protocol is for 3 processes, as many as can agree.');
         assert.equal(said({ number: 3, most: 3, certified: 3, limit: 2 }), 'The protocol is for 2 processes, as you chose. It can be for up to 3.');
         assert.equal(said({ number: 1, most: 1, certified: 1 }), '');
+    });
+});
+
+describe('the table of two operations that last', () => {
+    it('has the start state and the single operation first', () => {
+        const text = [
+            'name = "x"', 'states = ["a", "b"]', 'responses = ["r", "s"]',
+            '[[operation]]', 'name = "f"', 'response = ["r", "s"]', 'next = ["a", "a"]',
+            '[[operation]]', 'name = "g"', 'response = ["s", "r"]', 'next = ["b", "a"]', '[[operation]]', 'name = "h"', 'response = ["r", "r"]', 'next = ["b", "b"]', '',
+        ].join('\n');
+        const wanted = [
+            'name = "x"', 'states = ["b", "a"]', 'responses = ["r", "s"]',
+            '[[operation]]', 'name = "h"', 'response = ["r", "r"]', 'next = ["b", "b"]', '[[operation]]', 'name = "f"', 'response = ["s", "r"]', 'next = ["a", "a"]', '',
+        ].join('\n');
+        assert.equal(Cnum.tableOfLasting(text, { start: 'b', single: 'h', many: 'f' }), wanted);
     });
 });
 

@@ -1278,7 +1278,10 @@ def explanations(use):
         use.value("(() => { document.querySelector('#why details').open = false; })()")
         told = json.loads(called(["why", "--as", "json", "-"], TYPES[name])[0])
         if told["lasting"]:
-            told["witness"] = json.loads(called(["why", "--limit", "3", "--as", "json", "-"], TYPES[name])[0])["witness"]
+            example = table_of_lasting(tomllib.loads(TYPES[name]), told["lasting"])
+            told["witness"] = json.loads(called(["why", "--limit", "3", "--as", "json", "-"], example)[0])["witness"]
+            roles = [it["operation"] for it in told["witness"]["processes"]]
+            yield f"the operations of {name} keep their roles", roles == [told["lasting"][it] for it in ("single", "many", "many")], roles
         for about, selector, texts in shown_of(told):
             yield f"{about} of {name}", use.texts(selector) == texts, (use.texts(selector), texts)
     for name, most, count in (("test_and_set", "as many as can agree", 2), ("sticky_bit", "at first. Choose up to 8.", 3)):
@@ -1304,6 +1307,13 @@ def explanations(use):
         use.value("document.querySelector('#why > button').click()")
         use.until(f"document.querySelectorAll('.collisions > li:not([hidden])').length > {before}")
     yield "all collisions on demand", use.count(".collisions > li") == whole > 12, whole
+
+
+def table_of_lasting(type_, lasting):
+    """The two operations of this type that last, the single one first, from their start state."""
+    states, order = type_["states"], sorted(type_["states"], key=lambda it: it != lasting["start"])
+    rows = {it["name"]: [[it[row][states.index(state)] for state in order] for row in ("response", "next")] for it in type_["operation"]}
+    return table_text(type_["name"], order, type_["responses"], [(lasting[it], *rows[lasting[it]]) for it in ("single", "many")])
 
 
 def shown_of(told):

@@ -296,10 +296,10 @@ var Cnum = globalThis.Cnum || {};
             this.protocol.end();
         }
 
-        // Runs a command on the table that is shown. The answer is null if another table has come since.
-        async ask(runner, words, files) {
+        // Runs a command on the table that is shown, or on one that is made of it. The answer is null if another table has come since.
+        async ask(runner, words, files, table = this.table) {
             const round = this.round;
-            const answer = await runner.run(words, this.table, files);
+            const answer = await runner.run(words, table, files);
             return round === this.round && !answer.isBrokenOff ? answer : null;
         }
 
@@ -444,8 +444,8 @@ var Cnum = globalThis.Cnum || {};
         }
 
         // The answer of a search. If it is a fault, the page says so, and there is no answer.
-        async found(words) {
-            const answer = await this.timed(this.ask(this.search, words));
+        async found(words, table) {
+            const answer = await this.timed(this.ask(this.search, words, {}, table));
             if (!answer || answer.status === 0) return answer;
             this.refuse(Cnum.inWords(answer));
             return null;
@@ -459,11 +459,12 @@ var Cnum = globalThis.Cnum || {};
             Cnum.explainWords(at('why'));
         }
 
-        // An explanation that has no greatest number has the witness of few processes as its example.
+        // An explanation that has no greatest number has the witness of few processes as its example, by the operations that last.
         async exampleOf(told) {
             const count = Cnum.sizes.usual(told.number, this.certified);
             if (count === this.certified || !told.witness) return told;
-            const few = await this.found(['why', '--limit', String(count), '--as', 'json', '-']);
+            const table = told.lasting ? Cnum.tableOfLasting(this.table, told.lasting) : this.table;
+            const few = await this.found(['why', '--limit', String(count), '--as', 'json', '-'], table);
             return few && { ...told, witness: JSON.parse(few.stdout).witness };
         }
 

@@ -94,7 +94,7 @@ var Cnum = globalThis.Cnum || {};
         // The protocol for as many processes as are chosen: the shortest, that of the certificate's witness, or the shortest
         // without reads.
         async showProtocol(linked) {
-            const { witness } = this.page.told;
+            const { witness } = this.page.reasons.get(true) || this.page.told; // that of the reasons, which are shown beside it
             if (!witness) {
                 if (!this.page.address.fits(linked, 1)) return;
                 this.page.draw(null);
