@@ -268,6 +268,7 @@ def runs_of_program(use):
     yield "and four other runs", len(runs) == 6, json.dumps(runs)
 
 
-ALL = (screens, large_view, failing_run, sheets, printed_run, back_button, plain_pictures, runs_of_program)
+# The back button comes first, since a browser keeps the last 50 entries of its history alone.
+ALL = (back_button, screens, large_view, failing_run, sheets, printed_run, plain_pictures, runs_of_program)
 # The parts that also run in a browser that is not driven by DevTools.
 WITHOUT_DEVTOOLS = (back_button, plain_pictures, runs_of_program)

@@ -40,7 +40,7 @@ var Cnum = globalThis.Cnum || {};
                 await this.page.showLinked(linked, isFirst);
                 if (turn !== this.turn) return;
                 await this.keep();
-                this.isFollowing = false;
+                if (turn === this.turn) this.isFollowing = false;
             }
         }
 
@@ -48,6 +48,7 @@ var Cnum = globalThis.Cnum || {};
         refuse(why) {
             clearTimeout(this.keeping);
             this.page.end();
+            this.isFollowing = false;
             this.link = location.hash;
             const first = element('a', { href: FIRST }, say('link_first'));
             at('trouble').replaceChildren(say('link_refused', { why }), ' ', first);

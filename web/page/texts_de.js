@@ -70,7 +70,7 @@ Cnum.languages.de.texts = {
     reads_legend: 'Kann man Ihr Objekt lesen?',
     reads_no: 'Nein: nur die Operationen',
     reads_yes: 'Ja: den ganzen Zustand',
-    reads_hint: 'Warum, Ändern und der Link gelten für die gewählte Antwort. Eine <a href="#example=catalogue/queue_2">Warteschlange</a> zum Beispiel hat 2, und unendlich, wenn man ihren Zustand lesen kann.',
+    reads_hint: 'Die gewählte Antwort gilt für Warum und Ändern. Eine <a href="#example=catalogue/queue_2">Warteschlange</a> zum Beispiel hat 2, und unendlich, wenn man ihren Zustand lesen kann.',
     limit_label: 'Prozesse:',
     save_certificate: 'Das Zertifikat sichern',
     certificate_tools: 'Zertifikat: sichern oder prüfen',

@@ -71,7 +71,7 @@ Cnum.languages.en.texts = {
     reads_legend: 'Can your object be read?',
     reads_no: 'No: operations alone',
     reads_yes: 'Yes: the whole state',
-    reads_hint: 'Why, Change and the link are for the answer that you choose. A <a href="#example=catalogue/queue_2">queue</a>, for example, has 2, and infinite if its state can be read.',
+    reads_hint: 'Why and Change are for the answer that you choose. A <a href="#example=catalogue/queue_2">queue</a>, for example, has 2, and infinite if its state can be read.',
     limit_label: 'Processes:',
     save_certificate: 'Save the certificate',
     certificate_tools: 'Certificate: save one, or check one',
