@@ -106,6 +106,8 @@ START_IN_VIEW = """(([a, b]) => a.left <= b.left && b.right <= a.right && a.top 
 # Opens what is behind a button, and shows the screen of the run.
 OPEN_ALL = "(() => { for (const it of document.querySelectorAll('.opener[aria-expanded=false]')) it.click(); })()"
 SHOW_RUN = "Cnum.page.screens.open('run')"
+# Scrolls the picture of the run to its beginning, where the names of the processes lie on nothing.
+TO_THE_BEGINNING = "(it => { it.scrollLeft = 0; it.dispatchEvent(new Event('scroll')); })(document.querySelector('.space-time').parentElement)"
 SAVE_BUTTONS = "[...document.querySelectorAll('#protocol .buttons button')].filter(it => /^Save/.test(it.textContent))"
 OBJECTS = ["starts in bot", "a1 → a2, y answered a"]
 ACTS_SHOWN = ["writes 20", "x/a", "writes 30", "y/a", "writes 10", "stops", "reads a2"]
@@ -967,6 +969,7 @@ def forgotten(use):
     wanted = "Memory: node 1, value 30", ["", "", "Forgot: decision 30"], "0 of at most 12 steps, undecided, crashed 2 times"
     yield "a process knows nothing but its proposal again", seen == wanted, seen
     yield "objects and registers keep their contents", use.texts("#protocol td")[:3] == ["unset → one, put1 answered one", "10", "30"], use.texts("#protocol td")
+    use.value(TO_THE_BEGINNING)
     marks = use.texts(".space-time .crashes"), use.count(".space-time .bolt"), use.value(TEXTS_MEET % ".space-time")
     yield "the diagram marks each crash", marks == (["crashes"] * 2, 2, []), marks
     places = use.texts(".tournament .lit"), use.texts(".tournament .forgotten")
@@ -1003,7 +1006,7 @@ def pictured_runs(use):
     yield "what became of the objects", use.texts("#protocol td:nth-child(2)") == OBJECTS, use.texts("#protocol td:nth-child(2)")
     yield "the state of the object is lit", use.value(LIT) == [["a2"], ["y"]] * 2, use.value(LIT)
     yield "the diagram has each act", use.texts(".space-time .mark-of-step text:first-of-type") == ACTS_SHOWN, use.texts(".space-time text")
-    use.value("(it => { it.scrollLeft = 0; it.dispatchEvent(new Event('scroll')); })(document.querySelector('.space-time').parentElement)")
+    use.value(TO_THE_BEGINNING)
     yield "no text of it lies on another", use.value(TEXTS_MEET % ".space-time") == [], use.value(TEXTS_MEET % ".space-time")
     use.value(OPEN_ALL)
     yield "nor in the tournament", use.value(TEXTS_MEET % ".tournament") == [], use.value(TEXTS_MEET % ".tournament")
