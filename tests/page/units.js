@@ -6,8 +6,8 @@ const { describe, it } = require('node:test');
 const vm = require('node:vm');
 
 const WEB = path.join(__dirname, '../../web');
-const PARTS = ['texts_en', 'texts_de', 'texts', 'elements', 'answers', 'plans', 'run', 'lives', 'link', 'table_text', 'table_edits', 'flaw_places', 'notes'];
-PARTS.push('past', 'example_search', 'comparison', 'schedules', 'space_time', 'tournament', 'dot', 'points', 'layout');
+const PARTS = ['texts_en', 'texts_de', 'texts', 'elements', 'answers', 'plans', 'run', 'lives', 'link', 'table_text', 'table_edits', 'lasting_table', 'flaw_places', 'flaw_texts', 'notes'];
+PARTS.push('past', 'example_search', 'comparison', 'schedules', 'space_time', 'failing_run', 'tournament', 'dot', 'points', 'layout', 'large', 'sizes');
 PARTS.push('reason_parts', 'explanation', 'picture', 'two_runs', 'unread_explanation', 'stock_explanation');
 
 globalThis.Cnum = {};
@@ -57,6 +57,17 @@ describe('links', () => {
         assert.equal((await Cnum.linkedBy('#example=types/idle')).reads, undefined);
     });
 
+    it('name the screen, unless it is the usual one', async () => {
+        const of = more => Cnum.linkOf({ example: 'types/idle', limit: null, inputs: ['1', '2'], acts: [], ...more });
+        assert.equal(await of({ screen: 'why' }), '#example=types/idle');
+        assert.equal(await of({ screen: 'print' }), '#example=types/idle&screen=print');
+        assert.equal(await of({ screen: 'run', isTried: true }), '#example=types/idle&try=yes');
+        assert.equal(await of({ screen: 'run', acts: [step(1)] }), '#example=types/idle&inputs=1,2&run=1');
+        assert.equal(await of({ screen: 'why', acts: [step(1)] }), '#example=types/idle&inputs=1,2&run=1&screen=why');
+        assert.equal(Cnum.links.screenOf(await Cnum.linkedBy('#run=0')), 'run');
+        assert.equal((await Cnum.linkedBy('#example=types/idle&try=yes&screen=table')).isTried, true);
+    });
+
     it('of older pages, without a checksum, are read', async () => {
         // The letters of 'name = "tas"\n', packed by DEFLATE alone.
         assert.equal((await Cnum.linkedBy('#table=y0vMTVWwVVAqSSxW4gIA')).text, 'name = "tas"\n');
@@ -87,7 +98,9 @@ describe('links', () => {
         ['#inputs=1,', 'a process proposes “” in it, and that is no number.'],
         ['#inputs=18446744073709551616', 'a process proposes “18446744073709551616” in it, and that is no number.'],
         ['#plan=other', 'it says “plan=other”, and the page knows only “plan=shortest”, “plan=certificate” and “plan=without_reads”.'],
-        ['#view=all', 'it shows the part “all” alone, and the page has number, why, states, run and pairs.'],
+        ['#view=all', 'it shows the part “all” alone, and the page has number, why, states, run, pairs, exercise and solution.'],
+        ['#screen=all', 'it shows the screen “all”, and the page has why, change, run, print and table.'],
+        ['#try=no', 'it says “try=no”, and the page knows only “try=yes”.'],
         ['#exmaple=types/idle', 'it says “exmaple”, which the page does not know.'],
         ['#example=types/idle&table=AAAA', 'it names both an example and a table.'],
     ];
@@ -568,7 +581,141 @@ describe('undo', () => {
         assert.equal(past.move(-1), '');
     });
 
+    it('goes to a text that was there before, or to a new one', () => {
+        const past = new Cnum.Past();
+        for (const text of ['a', 'b', 'c']) past.put(text);
+        past.goTo('b');
+        assert.deepEqual([past.canMove(1), past.move(1)], [true, 'c']);
+        past.goTo('d');
+        assert.deepEqual([past.canMove(1), past.move(-1)], [false, 'c']);
+    });
+
     it('leads the cursor to the place of the change', () => assert.equal(Cnum.endOfChange('one three', 'one two three'), 3));
+});
+
+describe('the run that fails', () => {
+    const step = (process, response, state) => ({ operation: 'tas', process, response, state });
+    const sides = { a_first: { pair: { response: 'one', state: 'one' }, steps: [step(0, 'zero', 'one'), step(1, 'one', 'one')] } };
+    sides.b_first = { ...sides.a_first, steps: [step(2, 'zero', 'one'), step(1, 'one', 'one')] };
+    const CHOICE = { ...sides, process: 1, processes: ['A', 'B', 'B'].map(team => ({ operation: 'tas', team })), start: 'zero' };
+    const OWN = { ...CHOICE, process: 0, b_first: { ...sides.b_first, steps: [step(2, 'zero', 'one'), step(0, 'one', 'one')] } };
+    const wordOf = ({ process, kind, value, state }) => [process, kind, value || state].filter(it => it !== undefined).join(' ');
+
+    it('is one that other processes begin, if there is one', () => {
+        assert.equal(Cnum.collisionToShow({ collisions: [OWN, CHOICE] }), CHOICE);
+        assert.equal(Cnum.collisionToShow({ collisions: [OWN] }), OWN);
+        assert.equal(Cnum.collisionToShow({ collisions: [] }), null);
+    });
+
+    it('lets all write, the first one decide, and the others go on', () => {
+        const { runs, inputs, doubting } = Cnum.failingRuns(CHOICE);
+        const writes = ['0 writes 10', '1 writes 20', '2 writes 20'];
+        const wanted = first => [...writes, `${first} applies`, `${first} reads one`, `${first} decides ${first ? 20 : 10}`, '1 applies', '1 doubts one'];
+        assert.deepEqual(runs.map(it => it.events.map(wordOf)), [wanted(0), wanted(2)]);
+        assert.deepEqual([inputs, doubting, runs.map(it => it.decidedBy)], [['10', '20', '20'], 1, [0, 2]]);
+    });
+
+    it('ends with two decisions, whatever the one that cannot tell decides', () => {
+        const { runs, doubting } = Cnum.failingRuns(CHOICE);
+        const wrong = value => runs.map(it => Cnum.failingEnd(it, doubting, value).wrong);
+        assert.deepEqual([wrong('10'), wrong('20')], [[null, 'two'], ['two', null]]);
+    });
+
+    it('is wrong of the team that was first, if the first process is the one that cannot tell', () => {
+        const { runs, doubting } = Cnum.failingRuns(OWN);
+        assert.deepEqual(runs[0].events.map(wordOf).slice(3), ['0 applies', '1 applies', '0 doubts one']);
+        assert.deepEqual(runs.map(it => Cnum.failingEnd(it, doubting, '20').wrong), ['first', null]);
+    });
+});
+
+describe('the number of processes of a protocol', () => {
+    const ROWS = [
+        // number, certified, chosen: the most, and how many are shown
+        ['infinite', 8, null, 8, 3],
+        ['infinite', 8, 8, 8, 8],
+        ['infinite', 5, 3, 8, 3],
+        [3, 3, null, 3, 3],
+        [3, 3, 2, 3, 2],
+        [3, 3, 8, 3, 3],
+        [16, 8, null, 8, 8],
+        [1, 1, null, 1, 1],
+    ];
+    for (const [number, certified, wanted, most, shown] of ROWS) {
+        it(`of number ${number}, ${wanted || 'none'} chosen, is ${shown} of ${most}`, () => {
+            assert.equal(Cnum.sizes.mostOf({ number, certified, comeBack: false, isOfCertificate: false, unread: null }), most);
+            const limit = Cnum.sizes.chosen(wanted, number, most);
+            assert.equal(limit || Cnum.sizes.usual(number, most), shown);
+            assert.ok(limit === null || limit === wanted);
+        });
+    }
+
+    it('is said', () => {
+        const said = given => Cnum.sizes.inWords({ comeBack: false, isWithoutReads: false, reads: true, limit: null, ...given });
+        assert.equal(said({ number: 'infinite', most: 8, certified: 8 }), 'The protocol is for 3 processes at first. Choose up to 8.');
+        assert.equal(said({ number: 3, most: 3, certified: 3 }), 'The protocol is for 3 processes, as many as can agree.');
+        assert.equal(said({ number: 3, most: 3, certified: 3, limit: 2 }), 'The protocol is for 2 processes, as you chose. It can be for up to 3.');
+        assert.equal(said({ number: 1, most: 1, certified: 1 }), '');
+    });
+});
+
+describe('the table of two operations that last', () => {
+    it('has the start state and the single operation first', () => {
+        const text = [
+            'name = "x"', 'states = ["a", "b"]', 'responses = ["r", "s"]',
+            '[[operation]]', 'name = "f"', 'response = ["r", "s"]', 'next = ["a", "a"]',
+            '[[operation]]', 'name = "g"', 'response = ["s", "r"]', 'next = ["b", "a"]', '[[operation]]', 'name = "h"', 'response = ["r", "r"]', 'next = ["b", "b"]', '',
+        ].join('\n');
+        const wanted = [
+            'name = "x"', 'states = ["b", "a"]', 'responses = ["r", "s"]',
+            '[[operation]]', 'name = "h"', 'response = ["r", "r"]', 'next = ["b", "b"]', '[[operation]]', 'name = "f"', 'response = ["s", "r"]', 'next = ["a", "a"]', '',
+        ].join('\n');
+        assert.equal(Cnum.tableOfLasting(text, { start: 'b', single: 'h', many: 'f' }), wanted);
+    });
+});
+
+describe('the large view', () => {
+    it('has letters that can be read, and scrolls what is too wide', () => {
+        assert.equal(Cnum.scaleOfRun([600, 244], [1400, 600], 1080).toFixed(2), '2.33');
+        assert.equal((13 * Cnum.scaleOfRun([3000, 244], [1400, 600], 1080)).toFixed(1), '22.0');
+        assert.equal(Cnum.scaleOfRun([3000, 700], [1400, 600], 1080).toFixed(3), '0.857');
+        assert.equal(Cnum.scaleToFit([400, 800], [400, 400]), 0.5);
+    });
+});
+
+describe('flaws in words', () => {
+    const TABLE = Cnum.examples[0].types[0].text;
+    const ROWS = [
+        [{ kind: 'NotToml', path: [], line: 7, column: 6 }, TABLE, 'Zeile 7, Spalte 6: kein TOML'],
+        [{ kind: 'UnknownKey', path: ['color'] }, `color = "x"\n${TABLE}`, '"color": die Wurzel hat name, states, responses, operation'],
+        [{ kind: 'UnknownKey', path: ['operation', 0, 'then'] }, TABLE, 'Operation "tas", "then": eine Operation hat name, response, next'],
+        [{ kind: 'MissingKey', path: [] }, TABLE.replace('responses', 'answers'), 'der Wurzel fehlt "responses"'],
+        [{ kind: 'MissingKey', path: ['operation', 0] }, TABLE.replace('next', 'then'), 'Operation "tas": es fehlt "next"'],
+        [{ kind: 'WrongKind', path: ['name'] }, TABLE, '"name": nicht ein Text'],
+        [{ kind: 'WrongKind', path: ['operation', 0, 'next'] }, TABLE, 'Operation "tas", "next": nicht eine Liste von Texten'],
+        [{ kind: 'WrongKind', path: ['operation', 1] }, TABLE, 'operation[1]: keine Tabelle'],
+        [{ kind: 'BadName', path: ['states', 0] }, TABLE.replace('"zero"', '"Zero"'), 'Zustand "Zero": 1 bis 32 von a-z, 0-9, _'],
+        [{ kind: 'Count', path: ['states'] }, TABLE.replace('["zero", "one"]', '[]'), '0 Zustände; mindestens 1'],
+        [{ kind: 'Repeated', path: ['states', 1] }, TABLE.replace('"one"', '"zero"'), 'state[0] und state[1] heißen beide "zero"'],
+        [{ kind: 'RowLength', path: ['operation', 0, 'next'] }, TABLE.replace('next = ["one", "one"]', 'next = ["one"]'), 'Operation "tas": next hat 1 Eintrag, es gibt 2 Zustände'],
+        [{ kind: 'UnknownName', path: ['operation', 0, 'next', 0] }, TABLE.replace('next = ["one"', 'next = ["onee"'), 'Operation "tas", next[0]: "onee" ist kein Zustand (zero, one)'],
+    ];
+    for (const [flaw, text, wanted] of ROWS) {
+        it(`${flaw.kind} ${JSON.stringify(flaw.path)}`, () => {
+            Cnum.useLanguage('de');
+            const told = Cnum.flawTexts([flaw], text);
+            Cnum.useLanguage('en');
+            assert.deepEqual(told, [wanted]);
+            assert.deepEqual(Cnum.flawTexts([{ ...flaw, text: 'as it is printed' }], text), ['as it is printed']);
+        });
+    }
+
+    it('two missing keys of one table are two', () => {
+        const missing = { kind: 'MissingKey', path: [] };
+        Cnum.useLanguage('de');
+        const told = Cnum.flawTexts([missing, missing], 'name = "x"\nstates = ["s"]\n');
+        Cnum.useLanguage('en');
+        assert.deepEqual(told, ['der Wurzel fehlt "responses"', 'der Wurzel fehlt "operation"']);
+    });
 });
 
 describe('the search over examples', () => {
@@ -923,8 +1070,11 @@ describe('an explanation', () => {
         assert.ok(!text.includes('Why not'));
     });
 
-    it('of a smaller limit says that no more were looked for', () => {
-        has(shown({ ...NUMBER_2, collisions: [], limit: 2, number: { at_least: 2 } }), 'More than 2 processes were not looked for here.');
+    it('has a button to the run that fails, if there is one', () => {
+        const how = { all: async () => NUMBER_2, printed: async () => '', tryAnyway: () => {} };
+        const text = anyway => plain(shownIn('en', it => Cnum.showExplanation(it, NUMBER_2, { ...how, anyway })).textContent);
+        has(text('Let 3 try it anyway'), 'Let 3 try it anyway');
+        assert.ok(!text('').includes('anyway'));
     });
 });
 
@@ -1136,7 +1286,7 @@ describe('the texts', () => {
     it('are all used, and no other', () => {
         const files = fs.readdirSync(path.join(WEB, 'page')).filter(it => !it.startsWith('texts_'));
         const sources = [...files.map(it => `page/${it}`), 'index.html'].map(it => fs.readFileSync(path.join(WEB, it), 'utf8')).join('\n');
-        const families = ['fault_', 'log_', 'kind_', 'save_', 'word_', 'rule_', 'telling_'];
+        const families = ['fault_', 'log_', 'kind_', 'kinds_', 'save_', 'word_', 'rule_', 'telling_', 'screen_', 'flaw_', 'fail_', 'sheet_'];
         const isUsed = key => sources.includes(`'${key}'`) || sources.includes(`"${key}"`) || families.some(it => key.startsWith(it));
         assert.deepEqual(Object.keys(en.texts).filter(key => !isUsed(key)), []);
         const asked = [...sources.matchAll(/\b(?:say|marked|paragraph|head)\('(\w+)'|data-(?:text|label|placeholder)="(\w+)"/g)].map(it => it[1] || it[2]);
@@ -1154,9 +1304,11 @@ const PATTERNS = {
     'dot.js': [/\s*("(?:[^"\\]|\\.)*"|->|\w+|[^\s\w"])/y], // DOT
     'dropped_file.js': [/\.toml(\.txt)?$/i], // the name of a file
     'example_search.js': [/[-_/\s]+/g], // what the reader looks for
+    'flaw_texts.js': [/^[a-z0-9_]{1,32}$/], // a name
     'link.js': [/\+/g, /\//g, /=+$/, /-/g, /_/g, /^[2-8]$/, /^[xc]?[0-7]$/, /^\d{1,20}$/], // links
     'page.js': [/^(.*?), proved (by .*)\n$/, /^\w+$/, / /g], // the version; a name of a type; a number for a name of a file
-    'run_view.js': [/^(?:Digit|Numpad)([0-7])$/], // a key
+
+    'run_keys.js': [/^(?:Digit|Numpad)([0-7])$/], // a key
     'table_edits.js': [/^[^\n]*\n?/], // TOML
     'table_text.js': [
         /[ \t\r\n]*(?:#[^\n]*[ \t\r\n]*)*/y, /[ \t]*/y, /[^\n]*\n?/y, /[A-Za-z0-9_-]+|"(?:[^"\\\n]|\\.)*"|'[^'\n]*'/y,

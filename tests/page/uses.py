@@ -90,7 +90,7 @@ TEXTS_MEET = """(() => {
     const meets = (p, q) => p.left + 4 < q.right && q.left + 4 < p.right && p.top + 8 < q.bottom && q.top + 8 < p.bottom;
     return boxes.flatMap(([a, p], i) => boxes.slice(i + 1).filter(([, q]) => meets(p, q)).map(([b]) => [a, b]));
 })()"""
-TRIED = "/agree|breaks/.test(document.querySelector('.trial').textContent)"
+TRIED = "/agree|breaks|every schedule/.test(document.querySelector('.trial').textContent)"
 # For each button of a process: whether the last line of the log is seen when the button is.
 FROM_BUTTON_TO_LOG = """[...document.querySelectorAll('.process button')].map(it => {
     it.scrollIntoView({ block: 'center' });
@@ -103,6 +103,11 @@ LETTER = "(it => it ? 13 * it.clientWidth / it.getAttribute('width') : 0)(docume
 START_IN_VIEW = """(([a, b]) => a.left <= b.left && b.right <= a.right && a.top <= b.top && b.bottom <= a.bottom)(
     [document.getElementById('picture'), document.querySelector('#picture .start') || document.querySelector('#picture .node')]
         .map(it => it.getBoundingClientRect()))"""
+# Opens what is behind a button, and shows the screen of the run.
+OPEN_ALL = "(() => { for (const it of document.querySelectorAll('.opener[aria-expanded=false]')) it.click(); })()"
+SHOW_RUN = "Cnum.page.screens.open('run')"
+# Scrolls the picture of the run to its beginning, where the names of the processes lie on nothing.
+TO_THE_BEGINNING = "(it => { it.scrollLeft = 0; it.dispatchEvent(new Event('scroll')); })(document.querySelector('.space-time').parentElement)"
 SAVE_BUTTONS = "[...document.querySelectorAll('#protocol .buttons button')].filter(it => /^Save/.test(it.textContent))"
 OBJECTS = ["starts in bot", "a1 → a2, y answered a"]
 ACTS_SHOWN = ["writes 20", "x/a", "writes 30", "y/a", "writes 10", "stops", "reads a2"]
@@ -225,7 +230,7 @@ class Use:
 
     def limit(self, limit):
         """Chooses the number of processes of the protocol, if more can agree."""
-        self.do(f"Cnum.page.limit = {limit}; await Cnum.page.refresh();")
+        self.do(f"Cnum.page.choice.limit = {limit}; await Cnum.page.refresh();")
 
     def edit(self, change, *words):
         """Changes the table by one of Cnum.edits."""
@@ -419,12 +424,13 @@ def picture_tools(use):
 def words(use):
     """The words of the subject, explained where they stand."""
     use.open("#example=types/test_and_set")
+    use.value(OPEN_ALL)
     for place, word in (("#legend", "witness"), ("#why", "team"), ("#plan-said", "plan tree"), ("#protocol", "nodes"), ("#protocol", "register")):
         at = f"[...document.querySelectorAll('{place} .word')].find(it => it.textContent.toLowerCase().startsWith({word!r}))"
         note = f"document.getElementById({at}.getAttribute('aria-controls'))"
         before = use.value(f"{note}.hidden")
         use.value(f"{at}.click()")
-        told = use.value(f"[{note}.checkVisibility(), {at}.getAttribute('aria-expanded'), {note}.textContent.length > 20]")
+        told = use.value(f"[!{note}.hidden, {at}.getAttribute('aria-expanded'), {note}.textContent.length > 20]")
         yield f"{word} at {place}", before and told == [True, "true", True], (before, told)
 
 
@@ -565,7 +571,7 @@ def unread(use):
     yield "others are chosen, and the link says so", use.until("location.hash === '#example=catalogue/queue_2&reads=no'", 5), use.value("location.hash")
     said = use.value(CHOSEN), use.texts(".of-choice span"), use.is_hidden("protocol-of"), use.text("limit-said")
     well = said[0] == ["reads-without"] and all(it.startswith("Without reads") for it in said[1]) and not said[2]
-    yield "each part says so", well and said[3].startswith("The protocol is for 8 processes"), said
+    yield "each part says so", well and said[3].startswith("The protocol is for 3 processes"), said
     sets = use.value(ONE_OR_TWO)
     use.value(PRESS_COMPARISON % "Each pair of operations")
     use.until("document.querySelectorAll('#comparison tbody button').length === 6")
@@ -744,25 +750,27 @@ def one_tree(use, about, told):
     shown = use.texts(".tournament .label text")
     yield f"{about}: its tree", sorted(shown) == sorted(wanted), (shown, wanted)
     yield f"{about}: no text of it lies on another", use.value(TEXTS_MEET % ".tournament") == [], use.value(TEXTS_MEET % ".tournament")
+    use.value(SHOW_RUN)
+    use.value(OPEN_ALL)
     sizes = use.value(TREE_SIZES)
-    yield f"{about}: it fits, with letters as large as ever", sizes[0] <= 1180 and sizes[1:] == [0, 1, "13px"], sizes
+    yield f"{about}: it fits its place", sizes[0] <= 1180 and sizes[1] <= 0 and 0.5 < sizes[2] <= 1, sizes
 
 
 def chosen_plans(use):
     """The plan of the certificate by choice, links to either plan, and the plan where there is no certificate for so many."""
-    use.open("#example=types/sticky_bit")
+    use.open("#example=types/sticky_bit&limit=8&screen=run")
     use.value(CHOOSE_PLAN % "certificate")
     well = use.until("document.getElementById('plan-said').textContent === 'A process takes at most 28 steps, at 7 objects.'", 20)
     yield "the plan of the certificate", well, use.text("plan-said")
     steps = [f"0 of {4 * min(it, 7)} steps, undecided" for it in range(1, 9)]
     yield "with its steps", use.texts(".decision") == steps, use.texts(".decision")
-    yield "and its link", use.until("location.hash === '#example=types/sticky_bit&plan=certificate'", 5), use.value("location.hash")
+    yield "and its link", use.until("location.hash === '#example=types/sticky_bit&limit=8&plan=certificate&screen=run'", 5), use.value("location.hash")
     use.press_code("Digit1")
     use.do("await Cnum.page.protocol.update();")
     yield "a key in the choice is no step", use.value("document.activeElement.id") == "plan" and use.count(".log li") == 0, use.texts(".log li")
     use.value(CHOOSE_PLAN % "shortest")
     well = use.until("document.getElementById('plan-said').textContent.startsWith('A process takes at most 9 steps, at 7 objects. No ')", 20)
-    yield "and the shortest again", well and use.until("location.hash === '#example=types/sticky_bit'", 5), use.value("location.hash")
+    yield "and the shortest again", well and use.until("location.hash === '#example=types/sticky_bit&limit=8&screen=run'", 5), use.value("location.hash")
     for given, plan, log in (("run=2,1", "certificate", "process 2: writes 9 to B of node 1"), ("plan=shortest&run=2,1", "shortest", "process 2: writes 9 to B of node 0")):
         use.open(f"#example=types/sticky_bit&limit=3&inputs=7,8,9&{given}")
         said = use.value("document.getElementById('plan').value"), use.texts(".log li")[:1]
@@ -775,16 +783,17 @@ def chosen_plans(use):
 def plans_without_certificate(use):
     use.open("#example=catalogue/cas_9&plan=shortest&run=0,1,2,3,4,5,6,7")
     said = use.text("limit-said"), use.count("#limit option")
-    yield "more processes than the certificate has", said == ("The protocol is for 8 processes. Why is for 5: a certificate for more would be too long.", 7), said
+    yield "more processes than the certificate has", said == ("The protocol is for 8 processes, as you chose. It can be for up to 8.", 7), said
+    yield "which is said of it", use.text("certificate-said") == "The certificate is for 5: one for more would be too long.", use.text("certificate-said")
     letters = use.texts(".space-time .badge"), use.texts("#protocol td")[1:9]
     yield "eight teams by their letters", letters == (list("ABCDEFGH"), [str(10 * it) for it in range(1, 9)]), letters
     use.value(CHOOSE_PLAN % "certificate")
     well = use.until("document.querySelectorAll('.process').length === 5", 20)
     said = use.text("limit-said"), use.count("#limit option")
-    yield "as many as the certificate has", well and said[0].startswith("Why and the protocol are for 5 processes. More can agree") and said[1] == 4, said
+    yield "as many as the certificate has", well and said == ("The protocol is for 5 processes, as you chose. It can be for up to 5.", 4), said
     use.open("#example=catalogue/cas_9&limit=6")
-    said = use.count(".process"), use.text("limit-said"), use.value("JSON.parse(Cnum.page.certificate).limit")
-    yield "fewer, and still more than the certificate has", said[0] == 6 and said[1].startswith("The protocol is for 6 processes. Why is for 5:") and said[2] == 5, said
+    said = use.count(".process"), use.text("limit-said"), use.value("Cnum.page.certificateText().then(it => JSON.parse(it).limit)")
+    yield "fewer, and still more than the certificate has", said[0] == 6 and said[1].startswith("The protocol is for 6 processes, as you chose.") and said[2] == 5, said
 
 
 def plans_without_reads(use):
@@ -813,7 +822,7 @@ def plans_without_reads(use):
     refused = "Without reads no two processes can agree by a plan tree of the type."
     yield "where there is none", use.text("protocol").startswith(refused) and not use.is_hidden("plan-part"), use.text("protocol")
     use.value(CHOOSE_PLAN % "shortest")
-    yield "and there is another one", use.until("document.querySelectorAll('.process').length === 8", 20), use.count(".process")
+    yield "and there is another one", use.until("document.querySelectorAll('.process').length === 3", 20), use.count(".process")
 
 
 def parts_of_plans(use):
@@ -960,6 +969,7 @@ def forgotten(use):
     wanted = "Memory: node 1, value 30", ["", "", "Forgot: decision 30"], "0 of at most 12 steps, undecided, crashed 2 times"
     yield "a process knows nothing but its proposal again", seen == wanted, seen
     yield "objects and registers keep their contents", use.texts("#protocol td")[:3] == ["unset → one, put1 answered one", "10", "30"], use.texts("#protocol td")
+    use.value(TO_THE_BEGINNING)
     marks = use.texts(".space-time .crashes"), use.count(".space-time .bolt"), use.value(TEXTS_MEET % ".space-time")
     yield "the diagram marks each crash", marks == (["crashes"] * 2, 2, []), marks
     places = use.texts(".tournament .lit"), use.texts(".tournament .forgotten")
@@ -978,10 +988,11 @@ def forgotten(use):
     buttons = use.value("[...document.querySelectorAll('.process')].map(it => [...it.querySelectorAll('.buttons button')].map(one => one.disabled))")
     yield "who has stopped does not crash", buttons == [[False] * 3, [True] * 3, [False] * 3], buttons
     use.open("#example=types/three_shot&crashes=yes")
-    yield "as many processes as the recoverable number", use.count(".process") == 2 and use.text("limit-said").startswith("Why is for 3"), use.text("limit-said")
+    yield "as many processes as the recoverable number", use.count(".process") == 2 and use.text("limit-said") == "", use.text("limit-said")
+    use.value(SHOW_RUN)
     use.value("document.getElementById('come-back').click()")
-    well = use.until("document.querySelectorAll('.process').length === 3") and use.text("limit-said").startswith("Why and the protocol are for 3")
-    yield "and back", well and use.until("location.hash === '#example=types/three_shot'", 5), use.value("location.hash")
+    well = use.until("document.querySelectorAll('.process').length === 3") and use.text("limit-said").startswith("The protocol is for 3")
+    yield "and back", well and use.until("location.hash === '#example=types/three_shot&screen=run'", 5), use.value("location.hash")
     use.open(f"{CRASHED}&lang=de")
     yield "in German", use.texts(".log li")[7].startswith("Prozess 2: stürzt ab (vergisst: Knoten 0, Wert 30"), use.texts(".log li")
     for wrong in ("#example=types/test_and_set&crashes=yes&run=0,1", "#example=types/three_shot&crashes=yes&inputs=1,2,3&run=0", "#example=types/idle&run=c0"):
@@ -995,7 +1006,9 @@ def pictured_runs(use):
     yield "what became of the objects", use.texts("#protocol td:nth-child(2)") == OBJECTS, use.texts("#protocol td:nth-child(2)")
     yield "the state of the object is lit", use.value(LIT) == [["a2"], ["y"]] * 2, use.value(LIT)
     yield "the diagram has each act", use.texts(".space-time .mark-of-step text:first-of-type") == ACTS_SHOWN, use.texts(".space-time text")
+    use.value(TO_THE_BEGINNING)
     yield "no text of it lies on another", use.value(TEXTS_MEET % ".space-time") == [], use.value(TEXTS_MEET % ".space-time")
+    use.value(OPEN_ALL)
     yield "nor in the tournament", use.value(TEXTS_MEET % ".tournament") == [], use.value(TEXTS_MEET % ".tournament")
     use.slide(0)
     lit = use.value(LIT)
@@ -1034,19 +1047,19 @@ def adversaries(use):
     for plan, steps, count in (("certificate", 4, 34), ("shortest", 3, 20)):
         use.open(f"#example=types/test_and_set&plan={plan}")
         use.press("Try to break it")
-        wanted = f"All schedules agree, wherever a process stops: they lead to {count} configurations"
+        wanted = f"In every schedule, wherever processes stop, all that decide decide the same value. All {count} states"
         yield f"all schedules of two, {plan}", use.until(TRIED, 60) and use.trial().startswith(wanted), use.trial()
         yield "the one with the most turns is shown", use.count(".log li") == 2 * steps, use.texts(".log li")
     use.choose("types/three_shot")
     use.press("Try to break it")
-    yield "schedules of three", use.until(TRIED, 120) and use.trial().startswith("All schedules agree"), use.trial()
+    yield "schedules of three", use.until(TRIED, 120) and use.trial().startswith("In every schedule, wherever processes stop, all"), use.trial()
     use.open("#example=catalogue/cas_3&limit=5&plan=certificate")
     use.press("Try to break it")
-    yield "schedules of five, at random", use.until(TRIED, 120) and use.trial().startswith("500 schedules, chosen at random"), use.trial()
+    yield "schedules of five, at random", use.until(TRIED, 120) and use.trial().startswith("500 schedules, chosen at random, agree. There are too many") and "at most 2,500" in use.trial(), use.trial()
     for n in (2, 3):
         use.open(f"#example=types/sticky_bit&limit={n}&crashes=yes")
         use.press("Try to break it")
-        well = use.until(TRIED, 240) and use.trial().startswith("All schedules agree, however often processes crash")
+        well = use.until(TRIED, 240) and use.trial().startswith("In every schedule, wherever processes stop and however often they crash")
         yield f"schedules of {n} that come back", well, use.trial()
         shown = "Cnum.page.protocol.events.filter(it => it.kind === 'crashes').length"
         yield "the one that is shown has crashes", use.until(f"{shown} > 1", 5), use.value(shown)
@@ -1062,13 +1075,13 @@ def adversaries(use):
     use.open("#example=types/three_shot&crashes=yes")
     use.press("Try to break it")
     use.choose("types/sticky_bit")
-    yield "another table ends it", (use.count(".process"), use.trial(), use.texts(".log li")) == (8, "", []), use.trial()
+    yield "another table ends it", (use.count(".process"), use.trial(), use.texts(".log li")) == (3, "", []), use.trial()
 
 
 def keys(use):
     """The protocol stepped by keys."""
-    use.open("#example=types/three_shot")
-    use.value("document.querySelector('.process button').focus()")
+    use.open("#example=types/three_shot&screen=run")
+    yield "nothing has the focus", use.value("document.activeElement === document.body"), ""
     counts = (("Digit1", 1), ("Shift Digit2", 2), ("Digit2", 2), ("Digit7", 2), ("Numpad0", 3), ("KeyU", 2))
     for code, wanted in counts:
         use.press_code(code.split()[-1], code.startswith("Shift"))
@@ -1100,7 +1113,7 @@ def phone(use):
 
 def links(use):
     use.open("#example=types/three_shot&limit=2&inputs=7,8&run=1,1,0,x0")
-    shown = use.text("number"), use.value("JSON.parse(Cnum.page.certificate).limit"), use.texts(".decision")
+    shown = use.text("number"), use.value("Cnum.page.certificateText().then(it => JSON.parse(it).limit)"), use.texts(".decision")
     yield "a link shows fewer processes than can agree", shown[:2] == ("3", 2) and len(shown[2]) == 2, shown
     yield "and keeps that", use.until("location.hash.includes('&limit=2&')", 5), use.value("location.hash")
     use.open("#example=types/sticky_bit&inputs=7,8,9&run=2,0")
@@ -1129,9 +1142,10 @@ def links(use):
     well = use.has_number("2") and not use.is_hidden("content") and use.text("trouble") == ""
     yield "from there one begins with an example", well, use.text("trouble")
     parts = {"number": "number-part", "why": "why-part", "states": "picture-part", "run": "protocol-part", "pairs": "compare-part"}
+    parts.update({"exercise": "sheet-part", "solution": "sheet-part"})
     for view, part in parts.items():
         use.open(f"#example=types/three_shot&run=0,1&view={view}")
-        shown = use.value("[...document.querySelectorAll('main > section')].filter(it => it.checkVisibility()).map(it => it.id)")
+        shown = use.value("[...document.querySelectorAll('.part')].filter(it => it.checkVisibility()).map(it => it.id)")
         yield f"the view {view}", shown == [part] and use.value("location.hash").endswith(f"view={view}"), shown
 
 
@@ -1174,10 +1188,10 @@ def on_a_server(use):
         use.value("Cnum.page.address.copy()")
         yield "its link is for everyone", "this machine" not in use.text("link-said"), use.text("link-said")
         use.browser.open(f"{address}/course.html")
-        sections = "[...frames[0].document.querySelectorAll('main > section')].filter(it => it.checkVisibility()).map(it => it.id).join()"
+        sections = "[...frames[0].document.querySelectorAll('.part')].filter(it => it.checkVisibility()).map(it => it.id).join()"
         yield "a part of it stands in a frame", use.until(f"frames[0].{READY} && {sections} === 'protocol-part'"), ""
         whole = use.value("frames[0].document.getElementById('whole-link').href")
-        yield "with a link to the whole page", whole.endswith("/cnum.html#example=types/three_shot"), whole
+        yield "with a link to the whole page", whole.endswith("/cnum.html#example=types/three_shot&screen=run"), whole
         server.shutdown()
 
 
@@ -1210,7 +1224,7 @@ def certificates(use):
     whole = called(["find"], TYPES["test_and_set"])[0].decode()
     unread = '{"at_least":2,"at_most":null,"least":{"visible":[0,[0],[0]]},"most":null,"type":"test_and_set","version":4}'
     stocks = '{"at_least":2,"at_most":2,"least":{"witness":[0,[0],[0]]},"most":[[0,[0],0,[0],0]],"type":"test_and_set","version":3}'
-    yield "the certificate is the program's", use.value("Cnum.page.certificate") == whole, ""
+    yield "the certificate is the program's", use.value("Cnum.page.certificateText()") == whole, ""
     drop = """((name, text) => {
         const dataTransfer = new DataTransfer();
         dataTransfer.items.add(new File([text], name));
@@ -1266,29 +1280,43 @@ def explanations(use):
         yield f"the explanation of {name}, as it is printed", use.texts("#why details pre") == [wanted], use.texts("#why details pre")
         use.value("(() => { document.querySelector('#why details').open = false; })()")
         told = json.loads(called(["why", "--as", "json", "-"], TYPES[name])[0])
+        if told["lasting"]:
+            example = table_of_lasting(tomllib.loads(TYPES[name]), told["lasting"])
+            told["witness"] = json.loads(called(["why", "--limit", "3", "--as", "json", "-"], example)[0])["witness"]
+            roles = [it["operation"] for it in told["witness"]["processes"]]
+            yield f"the operations of {name} keep their roles", roles == [told["lasting"][it] for it in ("single", "many", "many")], roles
         for about, selector, texts in shown_of(told):
             yield f"{about} of {name}", use.texts(selector) == texts, (use.texts(selector), texts)
-    for name, most, count in (("test_and_set", "as many as can agree", 2), ("sticky_bit", "the most for which the program gives evidence", 8)):
+    for name, most, count in (("test_and_set", "as many as can agree", 2), ("sticky_bit", "at first. Choose up to 8.", 3)):
         use.choose(f"types/{name}")
         said = use.text("limit-said"), use.count(".process")
         yield f"for how many processes the evidence of {name} is", most in said[0] and f" {count} " in said[0] and said[1] == count, said
-    use.value("(it => { it.value = '3'; it.dispatchEvent(new Event('change')); })(document.getElementById('limit'))")
-    well = use.until("document.querySelectorAll('.process').length === 3", 20) and "as you chose" in use.text("limit-said")
-    yield "one can choose fewer", well and use.text("number") == "infinite", (use.text("limit-said"), use.count(".process"))
+    use.value("(it => { it.value = '5'; it.dispatchEvent(new Event('change')); })(document.getElementById('limit'))")
+    well = use.until("document.querySelectorAll('.process').length === 5", 20) and "as you chose" in use.text("limit-said")
+    kept = use.text("why")
+    yield "why any number stays, and nothing below it says that more were not looked for", "Why any number" in kept and "not looked for" not in kept, kept
+    yield "one can choose more", well and use.text("number") == "infinite", (use.text("limit-said"), use.count(".process"))
     use.choose("types/idle")
     yield "for one process there is nothing to say or choose", use.is_hidden("limit-part") and use.text("limit-said") == "", use.text("limit-said")
     use.choose("catalogue/cas_3")
-    said = use.text("limit-said"), use.count(".process"), use.text("fault")
-    yield "a type with many choices has evidence too", "for 8 processes. Why is for 7:" in said[0] and said[1:] == (8, ""), said
+    said = use.text("certificate-said"), use.count(".process"), use.text("fault")
+    yield "a type with many choices has evidence too", said[0].startswith("The certificate is for 7:") and said[1:] == (3, ""), said
     use.choose("types/three_shot")
     label = use.value("document.querySelector('#why > button').textContent")
-    whole = use.value("JSON.parse(Cnum.page.certificate).collisions.length")
-    yield "how many more there are, of how many", label == f"Show {min(100, whole - 12)} more of {whole}", label
+    whole = use.value("Cnum.page.certificateText().then(it => JSON.parse(it).collisions.length)")
+    yield "how many more there are, of how many", label == f"Show 10 more of {whole}", label
     while not use.value("document.querySelector('#why > button').hidden"):
-        before = use.count(".collisions > li")
+        before = use.count(".collisions > li:not([hidden])")
         use.value("document.querySelector('#why > button').click()")
-        use.until(f"document.querySelectorAll('.collisions > li').length > {before}")
+        use.until(f"document.querySelectorAll('.collisions > li:not([hidden])').length > {before}")
     yield "all collisions on demand", use.count(".collisions > li") == whole > 12, whole
+
+
+def table_of_lasting(type_, lasting):
+    """The two operations of this type that last, the single one first, from their start state."""
+    states, order = type_["states"], sorted(type_["states"], key=lambda it: it != lasting["start"])
+    rows = {it["name"]: [[it[row][states.index(state)] for state in order] for row in ("response", "next")] for it in type_["operation"]}
+    return table_text(type_["name"], order, type_["responses"], [(lasting[it], *rows[lasting[it]]) for it in ("single", "many")])
 
 
 def shown_of(told):
@@ -1321,11 +1349,11 @@ def searches(use):
     use.choose("types/test_and_set")
     yield "and the page goes on", use.text("number") == "2", use.text("number")
     use.begin(LONG_UNREAD)
-    well = use.until("!document.getElementById('running-without').hidden", 20) and use.has_number("6")
-    yield "a long search for the number without reads does not hold up the other", well, (use.text("meaning"), use.text("meaning-without"))
+    use.until("!document.getElementById('running-without').hidden", 20)
     use.value("document.getElementById('break-off-without').click()")
-    said = use.is_hidden("running-without"), use.text("meaning-without"), use.text("number-without"), use.text("number")
-    yield "and can be broken off", said == (True, "The search was broken off.", "–", "6"), said
+    said = use.is_hidden("running-without"), use.text("meaning-without"), use.text("number-without")
+    yield "a long search for the number without reads can be broken off", said == (True, "The search was broken off.", "–"), said
+    yield "and does not hold up the other", use.has_number("6"), (use.text("meaning"), use.text("meaning-without"))
     use.begin(LONG)
     use.until("!document.getElementById('running').hidden", 20)
     use.choose("types/idle")
@@ -1394,7 +1422,7 @@ def paper(use):
     use.call("Emulation.setEmulatedMedia", media="print")
     use.call("Emulation.setDeviceMetricsOverride", width=711, height=1000, deviceScaleFactor=1, mobile=False)
     for path in ("types/wide", "catalogue/ll_sc_2", "types/three_shot"):
-        use.open(f"#example={path}&run=" if "wide" in path else f"#example={path}&run=0,1,1")
+        use.open(f"#example={path}&run=" if "wide" in path else f"#example={path}&run=0,1,1&screen=why")
         widths = use.value("[...document.querySelectorAll('html, #grid, #marks, .wide')].map(it => it.scrollWidth - it.clientWidth)")
         yield f"{path}: nothing is cut", max(widths) <= 1, widths
         text = use.value("(it => [it.checkVisibility(), it.scrollHeight - it.clientHeight])(document.getElementById('marks'))")
@@ -1428,7 +1456,7 @@ def languages(use):
     """The page in German, and back in English."""
     use.open("#example=types/three_shot&run=0,1,x1&lang=de")
     head = use.value("[document.documentElement.lang, document.querySelector('h1').textContent, document.title]")
-    yield "the page is German", head[0] == "de" and head[1].startswith("Wie viele Prozesse") and "einigen" in head[2], head
+    yield "the page is German", head[0] == "de" and head[1].startswith("Wie viele Prozesse") and head[2] == "three_shot – cnum", head
     yield "with what was said before in English", "können sich 3 Prozesse einigen, und kein Protokoll" in use.text("meaning"), use.text("meaning")
     yield "the log too", use.texts(".log li")[2] == "Prozess 1: hält für immer an", use.texts(".log li")
     yield "the link says so", use.until("location.hash.endsWith('&lang=de')", 5), use.value("location.hash")

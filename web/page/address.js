@@ -1,5 +1,5 @@
 // The address of the page: it shows what the address says, keeps in it what is shown, and hands it on as a link
-// or as a file.
+// or as a file. What the reader changes is one more entry of the browser's history, so that its back button undoes it.
 var Cnum = globalThis.Cnum || {};
 
 (() => {
@@ -8,34 +8,39 @@ var Cnum = globalThis.Cnum || {};
     const { element, say } = Cnum;
     const BEFORE_KEEPING = 150;
     const FIRST = '#example=types/test_and_set';
-    // The parts of the page that can be shown alone, by their names in a link.
-    const VIEWS = { number: 'number-part', why: 'why-part', states: 'picture-part', run: 'protocol-part', pairs: 'compare-part' };
 
     const at = id => document.getElementById(id);
 
     class Address {
         // `pageWith` gives the page as a file with a link in it, if it can be saved so.
         constructor(page, pageWith) {
-            Object.assign(this, { page, pageWith });
+            Object.assign(this, { page, pageWith, link: null, turn: 0, kept: Promise.resolve() });
             at('copy-link').addEventListener('click', () => this.copy());
             at('save-page').addEventListener('click', () => this.savePage());
             at('save-page').hidden = !pageWith;
             at('language').addEventListener('change', () => this.speak(at('language').value));
-            at('skip').addEventListener('click', event => this.skip(event));
-            window.addEventListener('hashchange', () => this.follow());
+            for (const event of ['popstate', 'hashchange']) window.addEventListener(event, () => this.follow());
         }
 
         // Shows what the address says, or else what the file of the page holds.
         async follow() {
             if (location.hash === this.link) return;
+            const isFirst = this.link === null;
+            this.link = location.hash;
+            const turn = ++this.turn;
+            clearTimeout(this.keeping);
             const linked = await Cnum.linkedBy(location.hash || Cnum.savedLink());
             if (linked.fault) {
                 this.refuse(linked.fault);
             } else if ((linked.lang || Cnum.FIRST_LANGUAGE) !== Cnum.language) {
                 location.reload();
             } else {
-                this.showView(linked.view);
-                await this.page.showLinked(linked);
+                this.isFollowing = true; // what is shown now is the entry that the browser is at
+                this.page.showScreen(linked);
+                await this.page.showLinked(linked, isFirst);
+                if (turn !== this.turn) return;
+                await this.keep();
+                if (turn === this.turn) this.isFollowing = false;
             }
         }
 
@@ -43,6 +48,7 @@ var Cnum = globalThis.Cnum || {};
         refuse(why) {
             clearTimeout(this.keeping);
             this.page.end();
+            this.isFollowing = false;
             this.link = location.hash;
             const first = element('a', { href: FIRST }, say('link_first'));
             at('trouble').replaceChildren(say('link_refused', { why }), ' ', first);
@@ -57,29 +63,49 @@ var Cnum = globalThis.Cnum || {};
             return fits;
         }
 
-        // Shows this part alone, or the whole page if there is none.
-        showView(view) {
-            this.view = view;
-            at('trouble').replaceChildren();
-            at('content').hidden = false;
-            document.body.classList.toggle('one-part', Boolean(view));
-            for (const name of Object.keys(VIEWS)) at(VIEWS[name]).classList.toggle('shown', name === view);
-            at('whole').hidden = !view;
-        }
-
         // A browser takes so many addresses at a time, and one can step faster.
         keepSoon() {
             clearTimeout(this.keeping);
             this.keeping = setTimeout(() => this.keep(), BEFORE_KEEPING);
         }
 
-        async keep() {
+        // What is shown now stands in the address, after what was shown before; but nothing of what was shown before another
+        // address came.
+        keep() {
             clearTimeout(this.keeping);
-            const shown = { ...this.page.linkContent(), lang: Cnum.language };
-            const link = await Cnum.linkOf({ ...shown, view: this.view });
-            at('whole-link').href = await Cnum.linkOf(shown);
-            this.link = link;
-            history.replaceState(null, '', link);
+            if (at('content').hidden) return this.kept;
+            const { turn } = this;
+            const { at: place } = this.page.past;
+            const { view, ...rest } = this.page.linkContent();
+            const shown = { ...rest, lang: Cnum.language };
+            this.kept = this.kept.then(async () => {
+                const [link, whole] = [await Cnum.linkOf({ ...shown, view }), await Cnum.linkOf(shown)];
+                if (turn !== this.turn) return;
+                at('whole-link').href = whole;
+                this.put(link, { text: shown.text, place });
+            });
+            return this.kept;
+        }
+
+        // A link that says something new is one more entry of the history; letters that are typed one after another make one. A
+        // browser that takes no more entries keeps the last.
+        put(link, { text, place }) {
+            const isTyped = text !== this.text && place === this.place;
+            const isSame = link === this.link || this.isFollowing || isTyped;
+            Object.assign(this, { link, text, place });
+            try {
+                if (isSame) history.replaceState(null, '', link);
+                else history.pushState(null, '', link);
+            } catch {
+                this.keepSoon();
+            }
+        }
+
+        // A link to the solution of the table, for a sheet: none, if the page is a file, or if it would be too long to type.
+        ofSheet() {
+            const { example } = this.page.linkContent();
+            if (location.protocol === 'file:' || !example) return '';
+            return `${location.origin}${location.pathname}#example=${example}&view=solution`;
         }
 
         async copy() {
@@ -96,7 +122,7 @@ var Cnum = globalThis.Cnum || {};
 
         async savePage() {
             await this.keep();
-            this.page.offer('html', this.pageWith(this.link), 'text/html');
+            this.page.offer('html', this.pageWith(this.link, this.page.nameOfType()), 'text/html');
         }
 
         // Shows the same in another language.
@@ -105,12 +131,6 @@ var Cnum = globalThis.Cnum || {};
             if (at('content').hidden) history.replaceState(null, '', `#lang=${lang}`);
             else await this.keep();
             location.reload();
-        }
-
-        // Leads to the number. The address holds the link, and so has no place for the name of a part.
-        skip(event) {
-            event.preventDefault();
-            at('number-part').focus();
         }
     }
 

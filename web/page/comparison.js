@@ -169,7 +169,7 @@ var Cnum = globalThis.Cnum || {};
             const found = Cnum.differences(first, text);
             const heads = ['operation_head', 'state_head', 'table_kept_head', 'table_now_head'].map(it => say(it));
             const rows = found.map(it => [it.operation, it.state, it.first || say('no_cell'), it.second || say('no_cell')]);
-            const sentence = element('p', {}, say('two_numbers', { first: numbers[0], second: numbers[1], count: found.length }));
+            const sentence = element('p', {}, say(found.length === 1 ? 'two_numbers_one' : 'two_numbers', { first: numbers[0], second: numbers[1], count: found.length }));
             const back = button(say('show_kept'), () => this.take(first));
             const table = wide(say('beside_head'), tableOf(heads, rows, { class: 'pairs' }));
             this.beside.replaceChildren(element('h3', {}, say('beside_head')), sentence, ...(found.length ? [table] : []), back);

@@ -24,11 +24,11 @@ var Cnum = globalThis.Cnum || {};
             const text = this.text.value;
             const places = Cnum.placesOf(flaws, text);
             this.text.setAttribute('aria-invalid', String(flaws.length > 0));
-            this.list.replaceChildren(...flaws.map((flaw, index) => element('li', {}, this.flaw(flaw, places[index]))));
+            this.list.replaceChildren(...Cnum.flawTexts(flaws, text).map((it, index) => element('li', {}, this.flaw(it, places[index]))));
             this.mark(text, places.filter(Boolean));
         }
 
-        flaw({ text }, place) {
+        flaw(text, place) {
             if (!place) return text;
             return button(text, () => {
                 this.text.focus();

@@ -30,11 +30,27 @@ var Cnum = globalThis.Cnum || {};
     // Something that may be wider than the page: it scrolls by itself, with the keyboard too.
     Cnum.wide = (label, content) => Cnum.element('div', { class: 'wide', tabindex: 0, role: 'region', 'aria-label': label }, content);
 
+    // What a button opens and closes. On paper it is open.
+    Cnum.disclosure = (label, ...content) => {
+        const inner = Cnum.element('div', { class: 'folded' }, ...content);
+        const opener = Cnum.button(label, () => {
+            const isOpen = !inner.classList.toggle('folded');
+            opener.setAttribute('aria-expanded', String(isOpen));
+        }, { class: 'opener', 'aria-expanded': 'false' });
+        return Cnum.element('div', { class: 'disclosure' }, opener, inner);
+    };
+
     // A button that does something.
     Cnum.button = (label, act, attributes = {}) => {
         const made = Cnum.element('button', { type: 'button', ...attributes }, label);
         made.addEventListener('click', act);
         return made;
+    };
+
+    // Does something before the page is printed.
+    Cnum.beforePrint = act => {
+        window.addEventListener('beforeprint', act);
+        window.matchMedia('print').addEventListener('change', ({ matches }) => matches && act());
     };
 
     // Gives the reader a text or a blob as a file.

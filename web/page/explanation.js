@@ -7,7 +7,8 @@ var Cnum = globalThis.Cnum || {};
 
     const { button, element, say, tableOf, wide } = Cnum;
     const { process, paragraph, head, tasks, witnessTable, run, asPrinted } = Cnum.reasonParts;
-    const AT_ONCE = 100; // how many more collisions each demand shows
+    const AT_FIRST = 2; // how many collisions are shown
+    const AT_ONCE = 100; // how many more each demand shows
     const MOST_APART = 3; // more pairs of operations are no reason to remember
 
     // Two operations by which each process knows which of them came first.
@@ -56,7 +57,6 @@ var Cnum = globalThis.Cnum || {};
     // What is said of more processes than those of the witness: a heading if there are collisions, and sentences.
     function beyond(told, count) {
         if (told.number === 'infinite') return { end: [say('why_each')] };
-        if (told.number.at_least) return { end: [say('why_not_looked', { count })] };
         const most = Cnum.mostOf(told.number);
         const end = say('why_proved', { count: most + 1 });
         if (count === told.limit) return { end: [say('why_not_listed', { count: most + 1 }), end] };
@@ -68,11 +68,21 @@ var Cnum = globalThis.Cnum || {};
     function collisions(told, all) {
         const whole = told.collisions.length + told.more;
         const list = element('ol', { class: 'collisions' });
-        const more = button('', demand);
+        const more = button('', open);
         let left = [];
 
         function shown(its) {
             its.forEach(it => list.append(collision(it, list.children.length + 1)));
+        }
+
+        // Those that wait in the list, or else the next ones of all.
+        function open() {
+            const waiting = [...list.children].filter(it => it.hidden);
+            if (!waiting.length) return demand();
+            for (const it of waiting) it.hidden = false;
+            label(told.more);
+            waiting[0].tabIndex = -1;
+            return waiting[0].focus();
         }
 
         function label(count) {
@@ -94,22 +104,24 @@ var Cnum = globalThis.Cnum || {};
         }
 
         shown(told.collisions);
-        label(told.more);
+        [...list.children].slice(AT_FIRST).forEach(it => (it.hidden = true));
+        label(Math.max(0, told.collisions.length - AT_FIRST) || told.more);
         return [list, more];
     }
 
     // Shows an explanation in this place. On demand, `all` gives it with all collisions, and `printed` gives the text
-    // of the program. Either is null if another table has come since.
-    Cnum.showExplanation = function (place, told, { all, printed }) {
+    // of the program. Either is null if another table has come since. `tryAnyway` shows the run that fails, by a button with the
+    // text `anyway`, if there is one.
+    Cnum.showExplanation = function (place, told, { all, printed, tryAnyway, anyway }) {
         const count = told.witness ? told.witness.processes.length : 1;
         const { title, end } = beyond(told, count);
-        const many = told.lasting && told.witness ? [paragraph('why_so_many', { count })] : [];
+        // Where operations last, the witness is an example.
+        const byWitness = told.lasting && told.witness ? [Cnum.disclosure(say('why_so_many', { count }), ...witness(told.witness))] : witness(told.witness);
         place.replaceChildren(
             ...lasting(told.lasting),
-            ...many,
-            ...witness(told.witness),
+            ...byWitness,
             ...ofOperations(told),
-            ...(title ? [title, ...collisions(told, all)] : []),
+            ...(title ? [title, ...(anyway ? [element('p', {}, button(anyway, tryAnyway))] : []), ...collisions(told, all)] : []),
             element('p', { class: 'quiet' }, end.join(' ')),
             asPrinted(printed),
         );

@@ -11,7 +11,9 @@ var Cnum = globalThis.Cnum || {};
     const OLD_FORM = 'deflate-raw'; // of links that older pages made
     const FIRST_BYTE = 0x78; // of a text in the form with a checksum
     const MOST_INPUT = 2n ** 64n - 1n;
-    const VIEWS = ['number', 'why', 'states', 'run', 'pairs'];
+    const VIEWS = ['number', 'why', 'states', 'run', 'pairs', 'exercise', 'solution'];
+    // The screens of the page; the first one is shown if nothing else is said. On a wide window the table is beside each.
+    const SCREENS = ['why', 'change', 'run', 'print', 'table'];
 
     // Why a link cannot be shown.
     class Refused extends Error {}
@@ -69,21 +71,29 @@ var Cnum = globalThis.Cnum || {};
         plan: plan => (kinds.KINDS.includes(plan) ? { plan } : refuse('link_plan', { plan })),
         lang: lang => (lang in Cnum.languages ? { lang } : refuse('link_language', { lang })),
         view: view => (VIEWS.includes(view) ? { view } : refuse('link_view', { view })),
+        screen: screen => (SCREENS.includes(screen) ? { screen } : refuse('link_screen', { screen })),
+        try: value => (value === 'yes' ? { isTried: true } : refuse('link_try', { value })),
     };
+
+    // The screens of views, and the screen of a link that names none: that of its view, or of the run, if it has one.
+    const OF_VIEWS = { run: 'run', pairs: 'change', exercise: 'print', solution: 'print' };
+    const screenOf = ({ acts, isTried, view }) => OF_VIEWS[view] || (acts.length || isTried ? 'run' : SCREENS[0]);
 
     // Whether a process can propose what stands in its field.
     Cnum.isInput = text => /^\d{1,20}$/.test(text) && BigInt(text) <= MOST_INPUT;
 
     // The part of the address for what the page shows: the path of an example or a text, the limit if there is one,
     // whether processes crash and come back, whether objects can be read, the plan if it is not the shortest or if there is a
-    // run, the inputs and the acts, the part that is shown alone, and the language.
-    Cnum.linkOf = async function ({ example, text, limit, comeBack, reads = true, plan, inputs, acts, view, lang }) {
+    // run, the inputs and the acts, whether one process more tries it, the screen, the part that is shown alone, and the language.
+    Cnum.linkOf = async function ({ example, text, limit, comeBack, reads = true, plan, inputs, acts, isTried, screen, view, lang }) {
         const parts = [example ? `example=${example}` : `table=${await packed(text)}`];
         if (limit) parts.push(`limit=${limit}`);
         if (comeBack) parts.push('crashes=yes');
         if (!reads) parts.push('reads=no');
         if (plan && !comeBack && (plan !== kinds.SHORTEST || acts.length)) parts.push(`plan=${plan}`);
         if (acts.length) parts.push(`inputs=${inputs.join(',')}`, `run=${acts.map(wordOf).join(',')}`);
+        if (isTried) parts.push('try=yes');
+        if (screen && screen !== screenOf({ acts, isTried, view })) parts.push(`screen=${screen}`);
         if (view) parts.push(`view=${view}`);
         if (lang && lang !== Cnum.FIRST_LANGUAGE) parts.push(`lang=${lang}`);
         return `#${parts.join('&')}`;
@@ -107,6 +117,8 @@ var Cnum = globalThis.Cnum || {};
         if (crash && !found.comeBack) refuse('link_crash', { step: wordOf(crash) });
         return found;
     }
+
+    Cnum.links = { SCREENS, screenOf };
 
     // What such a part says; or why it cannot be shown, as its `fault`.
     Cnum.linkedBy = async function (hash) {

@@ -10,10 +10,9 @@ var Cnum = globalThis.Cnum || {};
     const BEFORE_TEAMS = 400;
     const FIRST_EXAMPLE = 'types/test_and_set';
     const PROVED = /^(.*?), proved (by .*)\n$/;
-    const { SHORTEST, CERTIFICATE, WITHOUT_READS: PLAN_WITHOUT_READS } = Cnum.plans.kinds;
+    const { SHORTEST, CERTIFICATE } = Cnum.plans.kinds;
     const WITHOUT_READS = '--without-read';
-    const BY_STOCKS = '--stocks';
-    const MOST_PROCESSES = 8; // of a protocol
+    const MOST_PROCESSES = Cnum.sizes.MOST;
 
     const at = id => document.getElementById(id);
     const examples = new Map(Cnum.examples.flatMap(group => group.types).map(it => [it.path, it]));
@@ -21,18 +20,14 @@ var Cnum = globalThis.Cnum || {};
     class Page {
         // `pageWith` gives the page as a file with a link in it, if it can be saved so.
         constructor(module, pageWith) {
-            this.module = module;
             this.quick = new Cnum.Runner(module);
             this.search = new Cnum.Runner(module);
             this.adversary = new Cnum.Runner(module);
             this.unread = new Cnum.Runner(module); // of searches for objects that are not read, which may take long
-            this.beside = new Cnum.Runner(module); // of comparisons
+            this.others = new Cnum.OtherTables(module, { reads: () => this.reads, notice: text => this.notice(text) });
             this.round = 0;
             this.past = new Cnum.Past();
-            this.certificate = '';
-            this.limit = null; // what was chosen for the processes of the protocol, if fewer than the most
-            this.comeBack = false; // whether the processes of the protocol crash and come back
-            this.plan = SHORTEST; // the kind of plan of the protocol
+            this.choice = new Cnum.PlanChoice(this);
             this.reads = true; // whether reasons, comparisons and links are for objects that can be read
             this.numbers = new Cnum.TwoNumbers({ choose: reads => this.chooseReads(reads), openWhy: reads => this.openReasons(reads) });
             this.editor = new Cnum.Editor(at('table'), at('marks'), at('flaws'));
@@ -43,10 +38,14 @@ var Cnum = globalThis.Cnum || {};
             );
             this.examples = new Cnum.ExampleSearch(
                 { field: at('example'), list: at('examples'), number: at('example-number') },
-                { choose: path => this.choose(path), classify: paths => this.bothNumbers(paths.map(path => examples.get(path).text)) },
+                { choose: path => this.choose(path), classify: paths => this.others.bothNumbers(paths.map(path => examples.get(path).text)) },
             );
             this.comparison = new Cnum.Comparison(at('comparison'), this.forComparison());
             this.protocol = new Cnum.Protocol(at('protocol'), this.forProtocol());
+            this.failing = new Cnum.FailingView(at('failing'), this.forFailing());
+            this.sheet = new Cnum.Sheet({ place: at('sheet'), choice: at('sheet-choice') }, { version: () => this.version, address: () => this.address.ofSheet() });
+            this.claims = new Cnum.Claims(this.forClaims());
+            this.screens = new Cnum.Screens(() => this.address.keepSoon());
             this.address = new Cnum.Address(this, pageWith);
             this.listen();
         }
@@ -54,9 +53,9 @@ var Cnum = globalThis.Cnum || {};
         // What comparisons need of the page.
         forComparison() {
             return {
-                numbers: texts => this.numbersOf(this.beside, texts),
-                pairs: text => (this.reads ? this.pairsOf(text) : this.pairsWithoutReads(text)),
-                breakOff: () => this.beside.breakOff(),
+                numbers: texts => this.others.numbersOf(this.others.beside, texts),
+                pairs: text => (this.reads ? this.others.pairsOf(text) : this.others.pairsWithoutReads(text)),
+                breakOff: () => this.others.breakOff(),
                 take: text => this.edit(text),
                 openWhy: text => this.openWhy(text),
             };
@@ -65,15 +64,35 @@ var Cnum = globalThis.Cnum || {};
         // What the protocol needs of the page.
         forProtocol() {
             return {
-                agree: words => this.agree(this.quick, words),
-                tryOut: words => this.agree(this.adversary, words),
+                agree: words => this.choice.agree(this.quick, words),
+                tryOut: words => this.choice.agree(this.adversary, words),
                 breakOff: () => this.adversary.breakOff(),
                 next: () => Cnum.run.movesOf(this.table),
                 picture: plan => Cnum.pictureOf(this.graph, plan),
                 mainPicture: () => this.mainPicture(),
                 changed: () => this.address.keepSoon(),
                 say: text => (at('step-said').textContent = text),
+                name: () => this.nameOfType(),
                 save: (part, picture, form) => this.savePicture(part, picture, form),
+            };
+        }
+
+        // What the run that fails needs of the page.
+        forFailing() {
+            return {
+                picture: plan => Cnum.pictureOf(this.graph, plan),
+                name: () => this.nameOfType(),
+                close: () => this.tryAnyway(false),
+            };
+        }
+
+        forClaims() {
+            return {
+                ask: (words, files) => this.ask(this.quick, words, files),
+                take: text => this.edit(text),
+                table: () => this.table,
+                notice: text => this.notice(text),
+                printed,
             };
         }
 
@@ -97,32 +116,26 @@ var Cnum = globalThis.Cnum || {};
                 typed = setTimeout(() => this.refresh(), AFTER_TYPING);
             });
             at('own').addEventListener('click', () => this.edit(Cnum.FIRST_TABLE));
-            at('limit').addEventListener('change', async () => {
-                this.limit = at('limit').value === String(this.most) ? null : Number(at('limit').value);
-                await this.refresh();
-                // The field was away in the meantime, and lost the focus.
-                if (document.activeElement === document.body) at('limit').focus();
-            });
+            at('limit').addEventListener('change', () => this.choice.chooseLimit(Number(at('limit').value)));
             at('come-back').addEventListener('change', () => {
-                this.comeBack = at('come-back').checked;
+                this.choice.comeBack = at('come-back').checked;
                 this.refresh();
             });
-            at('plan').addEventListener('change', () => this.choosePlan(at('plan').value));
+            at('plan').addEventListener('change', () => this.choice.choosePlan(at('plan').value));
+            at('try-anyway').addEventListener('click', () => this.tryAnyway(true));
+            at('skip').addEventListener('click', event => this.skipTo(event, 'why', 'number-part'));
+            at('skip-protocol').addEventListener('click', event => this.skipTo(event, 'run', 'protocol-part'));
+            Cnum.listenToRunKeys(this.protocol, () => at('protocol').getClientRects().length > 0);
             this.listenToUndo();
             at('break-off').addEventListener('click', () => this.breakOff());
             at('break-off-without').addEventListener('click', () => this.breakOffUnread());
             for (const it of document.querySelectorAll('.of-choice button')) it.addEventListener('click', () => this.chooseReads(!this.reads));
-            const offers = {
-                download: () => ['json', this.certificate, 'application/json'],
-                'download-table': () => ['toml', this.text, 'application/toml'],
-            };
-            for (const id of Object.keys(offers)) at(id).addEventListener('click', () => this.offer(...offers[id]()));
+            at('download').addEventListener('click', () => this.offerCertificate());
+            at('download-table').addEventListener('click', () => this.offer('toml', this.text, 'application/toml'));
             for (const form of ['svg', 'png']) {
                 at(`picture-${form}`).addEventListener('click', () => this.savePicture('states', this.mainPicture(), form));
             }
-            at('claim-file').addEventListener('change', () => this.check(at('claim-file').files[0]));
             at('notice-close').addEventListener('click', () => this.notice(''));
-            this.listenToDrops();
         }
 
         // Undo and redo by their buttons, by keys, and as the browser's own commands in the text.
@@ -141,30 +154,6 @@ var Cnum = globalThis.Cnum || {};
                 event.preventDefault();
                 this.goBack(by);
             });
-        }
-
-        // A file can be dropped anywhere: a table becomes the text, and any other file is checked as a
-        // certificate.
-        listenToDrops() {
-            for (const [name, isOver] of [['dragover', true], ['dragleave', false], ['drop', false]]) {
-                document.body.addEventListener(name, event => {
-                    event.preventDefault();
-                    document.body.classList.toggle('over', isOver);
-                    if (name === 'drop') this.take(event.dataTransfer.files[0]);
-                });
-            }
-        }
-
-        async take(file) {
-            if (!file) return;
-            if (Cnum.isTableName(file.name)) {
-                const table = Cnum.textOf(new Uint8Array(await file.arrayBuffer()));
-                const editing = this.edit(table);
-                this.notice(say('table_taken', { name: file.name }));
-                await editing;
-            } else {
-                await this.check(file);
-            }
         }
 
         // Tells something where the reader looks, wherever that is on the page.
@@ -211,9 +200,45 @@ var Cnum = globalThis.Cnum || {};
 
         // Another table, with the reason of its number in view.
         async openWhy(text) {
-            this.address.showView('');
+            this.showScreen({ acts: [], screen: 'why' });
             await this.edit(text);
-            at('why-part').scrollIntoView();
+        }
+
+        // Shows the screen and the view of a link.
+        showScreen(linked) {
+            this.screens.open(linked.screen || Cnum.links.screenOf(linked));
+            this.screens.showView(linked.view);
+            this.sheet.show({ kind: linked.view === 'solution' ? 'solution' : 'exercise' });
+        }
+
+        // Leads to a part. The address holds the link, and so has no place for the name of a part.
+        skipTo(event, screen, part) {
+            event.preventDefault();
+            this.screens.open(screen);
+            at(part).focus();
+        }
+
+        // Shows the run that fails if one process more tries it, or the protocol again.
+        tryAnyway(isTried) {
+            this.isTried = isTried && this.failing.isThere();
+            at('protocol').hidden = at('choices').hidden = this.isTried;
+            at('failing').hidden = !this.isTried;
+            if (this.isTried) this.failing.draw();
+            if (this.isTried) this.screens.open('run');
+            this.screens.afterwards();
+            this.address.keepSoon();
+        }
+
+        // The certificate for as many processes as the program can, or as were chosen.
+        async certificateText() {
+            const limit = this.choice.limit && this.choice.limit < this.certified ? ['--limit', String(this.choice.limit)] : [];
+            const find = await this.ask(this.search, ['find', ...limit]);
+            return find && find.status === 0 ? find.stdout : '';
+        }
+
+        async offerCertificate() {
+            const text = await this.certificateText();
+            if (text) this.offer('json', text, 'application/json');
         }
 
         // The table before the last change, or after it. The cursor goes to the place of the change.
@@ -226,80 +251,55 @@ var Cnum = globalThis.Cnum || {};
             await this.refresh();
         }
 
-        // What a command prints beside those on the table that is shown. If it ends with a fault, the page says so, and
-        // the answer is null, as JSON; so it is if the command is broken off.
-        async aside(runner, words, stdin, files) {
-            const answer = await runner.run(words, stdin, files);
-            if (answer.status === 0) return answer.stdout;
-            if (!answer.isBrokenOff) this.notice(Cnum.inWords(answer));
-            return 'null';
-        }
-
-        // What `classify` tells of these tables, with these options; or null.
-        async classified(runner, texts, options) {
-            const files = Object.fromEntries(texts.map((text, index) => [String(index), text]));
-            const values = Cnum.valuesOf(await this.aside(runner, ['classify', ...options, '--as', 'json', ...Object.keys(files)], '', files));
-            return values[0] && values;
-        }
-
-        // The numbers of these tables, for objects that can be read or without reads, as is chosen; or null.
-        async numbersOf(runner, texts) {
-            const { reads } = this;
-            const values = await this.classified(runner, texts, reads ? [] : [WITHOUT_READS]);
-            return values && values.map(it => (reads ? it.number : it.without_read));
-        }
-
-        // The numbers of these tables as pairs, for objects that can be read and without reads; or null.
-        async bothNumbers(texts) {
-            const runner = new Cnum.Runner(this.module);
-            const values = await this.classified(runner, texts, [WITHOUT_READS]);
-            runner.end();
-            return values && values.map(it => ({ read: it.number, unread: it.without_read }));
-        }
-
-        // What `pairs` tells of a table, or null.
-        async pairsOf(text) {
-            return JSON.parse(await this.aside(this.beside, ['pairs', '--as', 'json', '-'], text));
-        }
-
-        // The same without reads. The command has no such option, so each table with one or two operations is classified.
-        async pairsWithoutReads(text) {
-            const sets = Cnum.setsUpToTwo(text);
-            const numbers = await this.numbersOf(this.beside, [text, ...sets.map(it => it.text)]);
-            return numbers && Cnum.pairsToldBy(sets, numbers);
-        }
-
-        // Shows what a link says. If it has no limit, there are as many processes as it has inputs. Those that come back may
-        // be fewer than those of why. A run with no plan is of the certificate: older pages made such links.
-        async showLinked(linked) {
-            this.comeBack = at('come-back').checked = Boolean(linked.comeBack);
-            this.reads = linked.reads !== false;
-            this.plan = linked.plan || (linked.comeBack || !linked.acts.length ? SHORTEST : CERTIFICATE);
-            at('plan').value = this.plan;
-            this.limit = linked.limit || (linked.inputs.length > 1 && !linked.comeBack ? linked.inputs.length : null);
-            this.text = linked.text === undefined ? examples.get(linked.example || FIRST_EXAMPLE).text : linked.text;
-            await this.refresh(linked);
+        // Shows what a link says. If it has no limit, there are as many processes as it has inputs, and if it has neither but a
+        // run, as many as can be. Those that come back may be fewer. A run with no plan is of the certificate: older pages made
+        // such links. If only the run is another one, nothing is searched anew.
+        async showLinked(linked, isFirst) {
+            const comeBack = Boolean(linked.comeBack);
+            const plan = linked.plan || (comeBack || !linked.acts.length ? SHORTEST : CERTIFICATE);
+            const text = linked.text === undefined ? examples.get(linked.example || FIRST_EXAMPLE).text : linked.text;
+            const ofRun = linked.inputs.length > 1 ? linked.inputs.length : linked.acts.length ? MOST_PROCESSES : null;
+            const limit = linked.limit || (comeBack ? null : ofRun);
+            const reads = linked.reads !== false;
+            const isSame = !isFirst && text === this.table && comeBack === this.choice.comeBack && plan === this.choice.plan && reads === this.reads;
+            const willTry = Boolean(linked.isTried);
+            Object.assign(this.choice, { comeBack, plan, limit });
+            this.reads = reads;
+            at('come-back').checked = comeBack;
+            at('plan').value = plan;
+            if (isSame && this.told) {
+                this.choice.offerLimits();
+                await this.choice.showChosen(linked);
+            } else {
+                this.past.goTo(text);
+                this.text = text;
+                await this.refresh(linked);
+            }
+            this.tryAnyway(willTry);
         }
 
         // What a link says of what is shown.
         linkContent() {
             const example = this.example();
             const { inputs } = this.protocol;
-            const { text, limit, comeBack, reads, plan } = this;
-            return { example: example && example.path, text, limit, comeBack, reads, plan, inputs, acts: this.protocol.actsSoFar() };
+            const { text, reads, isTried } = this;
+            const { limit, comeBack, plan } = this.choice;
+            const { screen, view } = this.screens;
+            const acts = this.protocol.actsSoFar();
+            return { example: example && example.path, text, limit, comeBack, reads, plan, inputs, acts, isTried, screen, view };
         }
 
         // Ends what runs, so that nothing is shown any more.
         end() {
             this.round++;
-            for (const it of [this.search, this.adversary, this.unread, this.beside]) it.breakOff();
+            for (const it of [this.search, this.adversary, this.unread, this.others]) it.breakOff();
             this.protocol.end();
         }
 
-        // Runs a command on the table that is shown. The answer is null if another table has come since.
-        async ask(runner, words, files) {
+        // Runs a command on the table that is shown, or on one that is made of it. The answer is null if another table has come since.
+        async ask(runner, words, files, table = this.table) {
             const round = this.round;
-            const answer = await runner.run(words, this.table, files);
+            const answer = await runner.run(words, table, files);
             return round === this.round && !answer.isBrokenOff ? answer : null;
         }
 
@@ -309,7 +309,7 @@ var Cnum = globalThis.Cnum || {};
             this.table = this.text;
             const example = this.example();
             this.past.put(this.text);
-            at('type-name').textContent = this.nameOfType();
+            this.tellName();
             at('undo').disabled = !this.past.canMove(-1);
             at('redo').disabled = !this.past.canMove(1);
             this.examples.show(example && example.path);
@@ -323,34 +323,41 @@ var Cnum = globalThis.Cnum || {};
             at('notes').replaceChildren(...(isTable ? Cnum.notesOf(this.table) : []).map(it => element('li', {}, it)));
             this.forget(isTable ? '' : say('no_number'));
             this.comparison.show(isTable ? this.table : '');
-            if (isTable && this.address.view === 'pairs') this.comparison.pair();
+            if (isTable && this.screens.view === 'pairs') this.comparison.pair();
             this.tellChoice();
             if (isTable) await this.find(linked);
-            if (!at('content').hidden) await this.address.keep();
+            await this.address.keep();
+        }
+
+        // The name of the type, as a heading and as the title of the page.
+        tellName() {
+            const name = this.nameOfType();
+            at('type-name').textContent = name;
+            document.title = name ? say('title_of_type', { name }) : say('title');
         }
 
         // Takes away what was said of another table.
         forget(why) {
             clearTimeout(this.early);
-            this.certificate = '';
+            this.told = null; // what `why` tells of objects that can be read
+            this.certified = 1; // for how many processes there is a certificate
+            this.recoverable = null;
             this.numbers.clear(why);
             this.reasons = new Map(); // what `why` told of the numbers, by whether the object can be read
             this.refused = ''; // why there is no evidence, if there is none
-            this.withoutReads = null; // what `show` answered of the plan without reads for as many processes as it can
+            this.choice.forget();
             this.graph = null;
             at('running').hidden = at('running-without').hidden = true;
             at('why').replaceChildren();
             this.picture.clear();
-            at('claim-said').textContent = '';
-            at('claim-told').replaceChildren();
-            at('claim-file').value = '';
-            at('recoverable').textContent = at('come-back-said').textContent = at('plan-said').textContent = '';
-            at('plan-part').hidden = true;
-            at('limit-said').textContent = '';
-            at('limit-part').hidden = true;
-            at('legend').hidden = true;
+            this.claims.clear();
+            for (const id of ['recoverable', 'bound', 'certificate-said', 'come-back-said', 'plan-said', 'limit-said']) at(id).textContent = '';
+            for (const id of ['plan-part', 'limit-part', 'try-part', 'legend']) at(id).hidden = true;
             at('download').disabled = at('picture-svg').disabled = at('picture-png').disabled = true;
             this.protocol.clear(why);
+            this.failing.clear();
+            this.sheet.show({ told: null, text: this.table });
+            this.tryAnyway(false);
         }
 
         async find(linked) {
@@ -362,30 +369,57 @@ var Cnum = globalThis.Cnum || {};
             await this.showNumber(linked);
         }
 
-        // Finds the number, and shows it, and then the evidence.
+        // Finds the number with its reasons, and shows them, and then the protocol. Beside that, another worker finds the other
+        // numbers.
         async showNumber(linked) {
             this.numbers.say(true, say('searching'));
-            const unread = this.showUnread();
-            const classify = await this.found(['classify', '--as', 'json', '-']);
-            if (!classify) return;
-            this.numbers.tell(true, JSON.parse(classify.stdout).number);
-            const hasEvidence = await this.showEvidence();
-            if (hasEvidence && !this.comeBack) await this.showProtocol(linked);
-            const recoverable = await this.showRecoverable();
-            if (recoverable && this.comeBack) await this.showLives(linked, recoverable);
-            if (!this.reads) await unread;
+            const others = this.showOthers();
+            const why = await this.found(['why', '--as', 'json', '-']);
+            if (!why) return;
+            this.tellNumber(JSON.parse(why.stdout));
+            if (!(await this.choice.findWithoutReads())) return;
+            this.choice.offerLimits();
+            const example = await this.exampleOf(this.told);
+            if (!example) return;
+            this.reasons.set(true, example);
+            this.sheet.show({ told: example, text: this.table });
+            if (this.reads) this.showReasons();
+            await this.choice.showChosen(linked);
+            if (!this.reads) await others;
         }
 
-        // Finds the number without reads, in a worker of its own, since that may take long. Shows it, and why, if it is chosen.
-        async showUnread() {
+        // Takes what `why` tells of objects that can be read.
+        tellNumber(told) {
+            this.told = told;
+            this.certified = told.witness ? told.witness.processes.length : 1;
+            at('download').disabled = false;
+            at('certificate-said').textContent = this.certified < Math.min(MOST_PROCESSES, Cnum.leastOf(told.number)) ? say('evidence_apart', this) : '';
+            this.numbers.tell(true, told.number);
+            this.tellBound();
+            this.failing.show(told, this.table);
+            at('try-part').hidden = !this.failing.isThere();
+            at('try-anyway').textContent = this.failing.title();
+        }
+
+        // What the number with reads says of objects that cannot be read: nothing more can agree through them.
+        tellBound() {
+            const number = this.told && this.told.number;
+            at('bound').textContent = typeof number === 'number' && number > 1 ? say('bound', { number }) : '';
+        }
+
+        // Finds the number without reads, with the recoverable one, in a worker of its own, since that may take long. Shows
+        // both, and why, if the number without reads is chosen.
+        async showOthers() {
             this.numbers.say(false, say('searching'));
-            const answer = await this.askUnread(['classify']);
+            const answer = await this.askUnread(['classify', '--recoverable']);
             if (!answer) return;
             if (answer.status !== 0) {
                 this.numbers.say(false, Cnum.inWords(answer));
                 return;
             }
-            this.numbers.tell(false, JSON.parse(answer.stdout).without_read);
+            const { recoverable, without_read: unread } = JSON.parse(answer.stdout);
+            this.numbers.tell(false, unread);
+            this.tellRecoverable(recoverable);
             if (!this.reads) await this.showUnreadReasons();
         }
 
@@ -394,49 +428,44 @@ var Cnum = globalThis.Cnum || {};
             return this.timed(this.ask(this.unread, [...words, WITHOUT_READS, '--as', 'json', '-']), at('running-without'));
         }
 
-        // Finds the recoverable number, and shows it.
-        async showRecoverable() {
+        // Finds the recoverable number alone, as it is wanted at once. If there is none, the answer is null.
+        async findRecoverable() {
             const answer = await this.timed(this.ask(this.search, ['classify', '--recoverable', '--as', 'json', '-']));
             if (!answer) return null;
-            if (answer.status !== 0) {
-                if (this.comeBack) this.refuseLives(Cnum.inWords(answer));
-                return null;
-            }
-            const { recoverable } = JSON.parse(answer.stdout);
+            if (answer.status === 0) return this.tellRecoverable(JSON.parse(answer.stdout).recoverable);
+            this.choice.refuseLives(Cnum.inWords(answer));
+            return null;
+        }
+
+        tellRecoverable(recoverable) {
+            this.recoverable = recoverable;
             at('recoverable').textContent = say('recoverable', { number: Cnum.numberText(recoverable) });
             return recoverable;
         }
 
         // The answer of a search. If it is a fault, the page says so, and there is no answer.
-        async found(words) {
-            const answer = await this.timed(this.ask(this.search, words));
+        async found(words, table) {
+            const answer = await this.timed(this.ask(this.search, words, {}, table));
             if (!answer || answer.status === 0) return answer;
             this.refuse(Cnum.inWords(answer));
             return null;
         }
 
-        // Finds the certificate for as many processes as the program can, or as were chosen, and shows why, if the number for
-        // objects that can be read is chosen. The answer is whether there is evidence.
-        async showEvidence() {
-            const most = await this.found(['find']);
-            const find = most && (await this.findChosen(most));
-            if (!find) return false;
-            this.certificate = find.stdout;
-            at('download').disabled = false;
-            return !this.reads || this.showReasons();
+        // Shows why the number for objects that can be read is what it is.
+        showReasons() {
+            const example = this.reasons.get(true);
+            const more = { all: () => this.explainAll(), printed: () => this.printedWhy(), tryAnyway: () => this.tryAnyway(true) };
+            Cnum.showExplanation(at('why'), example, { ...more, anyway: this.failing.title() });
+            Cnum.explainWords(at('why'));
         }
 
-        // Shows why the number for objects that can be read is what it is. The answer is whether the program tells it.
-        async showReasons() {
-            if (!this.reasons.has(true)) {
-                const why = await this.found(this.whyWords('--as', 'json'));
-                if (!why) return false;
-                this.reasons.set(true, JSON.parse(why.stdout));
-            }
-            if (!this.reads) return true;
-            Cnum.showExplanation(at('why'), this.reasons.get(true), { all: () => this.explainAll(), printed: () => this.printedWhy() });
-            Cnum.explainWords(at('why'));
-            return true;
+        // An explanation that has no greatest number has the witness of few processes as its example, by the operations that last.
+        async exampleOf(told) {
+            const count = Cnum.sizes.usual(told.number, this.certified);
+            if (count === this.certified || !told.witness) return told;
+            const table = told.lasting ? Cnum.tableOfLasting(this.table, told.lasting) : this.table;
+            const few = await this.found(['why', '--limit', String(count), '--as', 'json', '-'], table);
+            return few && { ...told, witness: JSON.parse(few.stdout).witness };
         }
 
         // The same without reads.
@@ -461,7 +490,7 @@ var Cnum = globalThis.Cnum || {};
             this.tellChoice();
             if (at('picture').firstElementChild) this.redraw();
             this.explain();
-            if (this.certificate) this.offerLimits();
+            if (this.told) this.choice.offerLimits();
             this.comparison.again();
             this.address.keepSoon();
         }
@@ -469,7 +498,7 @@ var Cnum = globalThis.Cnum || {};
         // Shows why the number that is chosen is what it is, or that this is searched for, or why there are no reasons.
         explain() {
             const { reads } = this;
-            const isKnown = reads ? this.certificate && !this.refused : this.numbers.has(false);
+            const isKnown = reads ? this.reasons.has(true) : this.numbers.has(false);
             const isBusy = (reads ? this.search : this.unread).isBusy();
             this.sayOfReasons(reads && this.refused ? this.refused : say(isKnown || isBusy ? 'searching' : 'search_broken_off'));
             if (isKnown && reads) this.showReasons();
@@ -484,8 +513,8 @@ var Cnum = globalThis.Cnum || {};
         // Shows the reasons of one of the two numbers where the reader looks.
         openReasons(reads) {
             if (reads !== this.reads) this.chooseReads(reads);
-            at('why-part').scrollIntoView();
-            at('why-part').focus();
+            at('why-part').scrollIntoView({ block: 'nearest' });
+            at('why-part').focus({ preventScroll: true });
         }
 
         // Says for which of the two numbers the parts of the page are, with a button for the other one.
@@ -501,211 +530,12 @@ var Cnum = globalThis.Cnum || {};
             at('protocol-of').hidden = reads;
         }
 
-        // The certificate for the chosen processes, if they are fewer than those of this one.
-        async findChosen(whole) {
-            this.certified = JSON.parse(whole.stdout).number || 1;
-            if (!(await this.findWithoutReads())) return null;
-            this.offerLimits();
-            return this.certifies() ? this.found(['find', '--limit', String(this.limit)]) : whole;
-        }
-
-        // Whether the certificate is for the processes that were chosen, and not for as many as it can.
-        certifies() {
-            return Boolean(this.limit) && this.limit < this.certified;
-        }
-
-        // Whether the protocol is the plan without reads.
-        isWithoutReads() {
-            return this.plan === PLAN_WITHOUT_READS && !this.comeBack && this.certified > 1;
-        }
-
-        // Finds the plan without reads for as many processes as it can, if it is chosen. The answer is false if the search is
-        // broken off, or another table has come since.
-        async findWithoutReads() {
-            if (!this.isWithoutReads() || this.withoutReads) return true;
-            const answer = await this.timed(this.ask(this.search, Cnum.plans.commandsOf(this.plan).show));
-            if (answer) this.withoutReads = answer;
-            return Boolean(answer);
-        }
-
-        // For how many processes that plan is, and 1 if there is none.
-        mostWithoutReads() {
-            const { status, stdout } = this.withoutReads;
-            return status === 0 ? JSON.parse(stdout).processes : 1;
-        }
-
-        // The most processes that can be chosen. The shortest plan may be for more than the certificate, and that without reads
-        // for fewer.
-        mostToChoose() {
-            if (this.isWithoutReads() && this.withoutReads) return this.mostWithoutReads();
-            const isOfCertificate = this.comeBack || this.plan === CERTIFICATE || this.certified === 1;
-            return isOfCertificate ? this.certified : Math.min(MOST_PROCESSES, Cnum.leastOf(this.numbers.of(true)));
-        }
-
-        // Says for how many processes why and the protocol are, and lets one choose fewer. Those that come back may be others.
-        offerLimits() {
-            this.most = this.mostToChoose();
-            if (this.limit >= this.most) this.limit = null;
-            const { most, limit } = this;
-            const options = Array.from({ length: most - 1 }, (_, index) => element('option', {}, String(index + 2)));
-            at('limit').replaceChildren(...options);
-            at('limit').value = limit || most;
-            at('limit-part').hidden = most < 3;
-            at('limit-said').textContent = most > 1 ? this.sizesInWords() : '';
-        }
-
-        // For how many processes the parts of the page are.
-        sizesInWords() {
-            const { most, limit, certified, comeBack, reads } = this;
-            const count = limit || most;
-            if (comeBack && !reads) return '';
-            if (this.isWithoutReads()) return this.withoutReads ? this.sizeWithoutReads() : '';
-            if (reads && count > certified) return say('evidence_apart', { count, certified });
-            const parts = comeBack ? 'evidence_why' : reads ? 'evidence_parts' : 'evidence_protocol';
-            const key = limit ? 'evidence_chosen' : most < Cnum.mostOf(this.numbers.of(true)) ? 'evidence_most' : 'evidence_whole';
-            return say(key, { parts: say(parts), count, most });
-        }
-
-        // The same if the protocol is the plan without reads. Why is for as many processes as it is only if fewer were chosen.
-        sizeWithoutReads() {
-            const { most, limit, reads } = this;
-            const parts = say(reads && this.certifies() ? 'evidence_parts' : 'evidence_protocol');
-            return say(limit ? 'evidence_chosen' : 'evidence_unread', { parts, count: limit || most, most });
-        }
-
-        // The words that ask why the number is what it is, as far as was chosen.
-        whyWords(...words) {
-            const limit = this.certifies() ? ['--limit', String(this.limit)] : [];
-            return ['why', ...limit, ...words, '-'];
-        }
-
         // Says why there is no evidence, and so no protocol.
         refuse(why) {
             this.draw(null);
             this.refused = why;
             if (this.reads) this.sayOfReasons(why);
             this.protocol.clear(why);
-        }
-
-        // The protocol for as many processes as were chosen: the shortest, that of the certificate's witness, or the shortest
-        // without reads.
-        async showProtocol(linked) {
-            const { number, witness } = JSON.parse(this.certificate);
-            if (number === null) {
-                if (!this.address.fits(linked, 1)) return;
-                this.draw(null);
-                this.protocol.clear(say('nobody'));
-                return;
-            }
-            const { plan } = this;
-            if (this.isWithoutReads() && this.most < 2) {
-                if (this.address.fits(linked, 1)) this.refusePlan(Cnum.plans.ofWitness(witness, this.table));
-                return;
-            }
-            const made = await (plan === CERTIFICATE ? this.planOfWitness(number) : this.planTree(this.limit || this.most));
-            if (!made || plan !== this.plan) return;
-            this.agreement = made.agreement;
-            this.tellPlan(made.plan);
-            await this.showPlan(made.plan, linked, Cnum.plans.ofWitness(witness, this.table));
-        }
-
-        // Takes the choice of a plan. Nothing else changes, so that the reader stays at the same place.
-        async choosePlan(plan) {
-            this.plan = plan;
-            if (!(await this.findWithoutReads()) || plan !== this.plan) return;
-            this.offerLimits();
-            await this.showProtocol({ inputs: [], acts: [] });
-        }
-
-        // Says how long a plan is, of what it is the shortest, whether processes look, and whether it is for objects that can be
-        // read only.
-        tellPlan(plan) {
-            const { most, nodes, reads } = plan;
-            at('plan-part').hidden = false;
-            const size = say(nodes.length === 1 ? 'plan_of_one' : 'plan_size', { most, objects: nodes.length });
-            const least = Cnum.plans.leastOf(this.plan);
-            const looks = Cnum.plans.looks(plan) ? [' ', say('plan_looks')] : [];
-            at('plan-said').replaceChildren(size, ...(least ? [' ', ...Cnum.marked(least)] : []), ...looks);
-            Cnum.explainWords(at('plan-said'));
-            at('protocol-of').textContent = say(reads ? 'protocol_reads' : 'protocol_without_reads');
-        }
-
-        // Says why there is no plan without reads. The reader can choose another one.
-        refusePlan(witness) {
-            at('plan-part').hidden = false;
-            at('plan-said').textContent = at('protocol-of').textContent = '';
-            this.draw(witness);
-            this.protocol.clear(Cnum.plans.whyNone(this.withoutReads));
-        }
-
-        // The plan tree for so many processes, with what runs it; or null. That without reads is known for as many as it can.
-        async planTree(number) {
-            const { show, agree } = Cnum.plans.commandsOf(this.plan, number);
-            const isKnown = this.isWithoutReads() && number === this.mostWithoutReads();
-            const answer = isKnown ? this.withoutReads : await this.found(show);
-            const agreement = { words: agree, files: {}, table: this.table };
-            return answer && { plan: Cnum.plans.ofTree(JSON.parse(answer.stdout)), agreement };
-        }
-
-        // The plan of the certificate for this number alone, with what runs it; or null. That certificate has the same witness and
-        // no collisions. Each step checks it anew, and so takes no longer if there are many collisions.
-        async planOfWitness(number) {
-            const find = await this.ask(this.search, ['find', '--limit', String(number)]);
-            if (!find) return null;
-            const files = { [CERTIFICATE]: find.stdout };
-            const show = await this.ask(this.search, ['show', '--as', 'json', CERTIFICATE], files);
-            const agreement = { words: ['agree', '--steps', '--as', 'json', CERTIFICATE], files, table: this.table };
-            return show && { plan: Cnum.plans.ofCertificate(JSON.parse(show.stdout)), agreement };
-        }
-
-        // Shows a plan, and in the picture of the states the start and the teams of this witness.
-        async showPlan(plan, linked, witness) {
-            if (!this.address.fits(linked, plan.processes)) return;
-            this.draw(witness);
-            await this.protocol.show(plan, linked.inputs, linked.acts);
-        }
-
-        // Says why there is no protocol of processes that come back.
-        refuseLives(why) {
-            this.draw(null);
-            at('come-back-said').textContent = '';
-            this.protocol.clear(why);
-        }
-
-        // The protocol of processes that crash and come back, as many as a link has or as were chosen, if so many can agree.
-        // The program tells its plan by the steps of each process alone.
-        async showLives(linked, recoverable) {
-            const most = Math.min(MOST_PROCESSES, Cnum.leastOf(recoverable));
-            if (most < 2) {
-                if (this.address.fits(linked, 1)) this.refuseLives(say('nobody_comes_back'));
-                return;
-            }
-            const wanted = linked.inputs.length > 1 ? linked.inputs.length : this.limit;
-            const processes = Math.min(most, wanted || most);
-            at('come-back-said').textContent = say('come_back_said', { count: processes });
-            const words = ['agree', '--recoverable', '--processes', String(processes), '--steps', '--as', 'json', '-'];
-            this.agreement = { words, files: {}, table: this.table };
-            const runs = await this.runsAlone(processes);
-            if (!runs) return;
-            const plan = Cnum.lives.planOf(runs);
-            at('protocol-of').textContent = say('protocol_reads');
-            await this.showPlan(plan, linked, plan.nodes[0]);
-        }
-
-        // The steps of each process alone. If they do not come, the answer is null.
-        async runsAlone(processes) {
-            const { scheduleOf, stepOf } = Cnum.run;
-            const most = Cnum.lives.mostSteps(processes);
-            const runs = [];
-            for (let process = 0; process < processes; process++) {
-                const acts = Array(most).fill(stepOf(process));
-                const words = [...this.agreement.words, Cnum.firstInputs(processes).join(','), scheduleOf(acts)];
-                const answer = await this.timed(this.ask(this.search, words));
-                if (answer && answer.status !== 0) this.refuseLives(Cnum.inWords(answer));
-                if (!answer || answer.status !== 0) return null;
-                runs.push(Cnum.exactValueOf(answer.stdout).steps);
-            }
-            return runs;
         }
 
         // The picture, with the start and the teams of this witness, if there is one.
@@ -748,8 +578,8 @@ var Cnum = globalThis.Cnum || {};
         breakOff() {
             this.search.breakOff();
             if (!this.numbers.has(true)) this.numbers.say(true, say('search_broken_off'));
-            else if (this.comeBack && this.certificate) this.refuseLives(say('search_broken_off'));
-            else this.refuse(say('certificate_broken_off'));
+            else if (this.choice.comeBack) this.choice.refuseLives(say('search_broken_off'));
+            else this.refuse(say('search_broken_off'));
         }
 
         breakOffUnread() {
@@ -759,55 +589,28 @@ var Cnum = globalThis.Cnum || {};
         }
 
         async explainAll() {
-            const answer = await this.ask(this.search, this.whyWords('--all', '--as', 'json'));
+            const answer = await this.ask(this.search, ['why', '--all', '--as', 'json', '-']);
             if (!answer || answer.status === 0) return answer && JSON.parse(answer.stdout);
             this.notice(Cnum.inWords(answer));
             return null;
         }
 
         async printedWhy() {
-            return printed(await this.ask(this.search, this.whyWords()));
+            return printed(await this.ask(this.search, ['why', '-']));
         }
 
         async printedUnread() {
             return printed(await this.ask(this.unread, ['why', WITHOUT_READS, '-']));
         }
 
-        agree(runner, words) {
-            const { words: before, table, files } = this.agreement;
-            return runner.run([...before, ...words], table, files);
-        }
-
-        // Checks a certificate of somebody else by this table.
-        async check(file) {
-            if (!file) return;
-            const claim = new Uint8Array(await file.arrayBuffer());
-            const words = Cnum.wordsOfCheck(new TextDecoder().decode(claim));
-            const answer = await this.ask(this.quick, [...words, '--as', 'json', CERTIFICATE], { [CERTIFICATE]: claim });
-            if (!answer) return;
-            const { name } = file;
-            const { ok, fault } = answer.stdout ? JSON.parse(answer.stdout) : {};
-            const told = ok ? say('certificate_ok', { name }) : say('certificate_wrong', { name, why: Cnum.inWords(answer, fault) });
-            at('claim-said').textContent = told;
-            this.notice(told);
-            at('claim-told').replaceChildren();
-            if (ok && words.includes(BY_STOCKS)) this.tellClaim(claim);
-        }
-
-        // Tells why a certificate by stocks that is right has its bounds. One of another kind tells of the number what why does.
-        tellClaim(claim) {
-            const printedClaim = async () => printed(await this.ask(this.quick, ['explain', BY_STOCKS, '--all', CERTIFICATE], { [CERTIFICATE]: claim }));
-            Cnum.showStockExplanation(at('claim-told'), JSON.parse(new TextDecoder().decode(claim)), this.table, printedClaim);
-        }
-
         async begin() {
             Cnum.explainWords(at('legend'));
-            await this.address.follow();
             const version = await this.quick.run(['--version']);
             const [, program, proof] = PROVED.exec(version.stdout) || ['', version.stdout.trim(), ''];
+            this.version = program;
             at('made-by').textContent = say('made_by', { program, proof });
-        }
-    }
+            await this.address.follow();
+        }    }
 
     // What the program prints, or why it does not.
     const printed = answer => answer && (answer.status === 0 ? answer.stdout : Cnum.inWords(answer));

@@ -23,6 +23,13 @@ var Cnum = globalThis.Cnum || {};
             this.typed = isTyped ? now : -Infinity;
         }
 
+        // The table has a text again that it had before, or one that is new.
+        goTo(text) {
+            const by = [-1, 1].find(it => this.texts[this.at + it] === text);
+            if (by && text !== this.texts[this.at]) this.move(by);
+            else this.put(text);
+        }
+
         canMove(by) {
             return this.at + by >= 0 && this.at + by < this.texts.length;
         }

@@ -17,6 +17,8 @@ var Cnum = globalThis.Cnum || {};
             Object.assign(this, { place, page });
             this.turn = 0;
             this.clear('');
+            window.addEventListener('resize', () => this.view && this.view.fit());
+            Cnum.beforePrint(() => this.view && this.view.layOutForPaper());
         }
 
         clear(why) {
@@ -190,13 +192,16 @@ var Cnum = globalThis.Cnum || {};
 
     const actsOf = events => events.map(({ process, does }) => ({ process, does }));
 
+    // A number as the language of the page writes it.
+    const grouped = number => number.toLocaleString(Cnum.language);
+
     const TEXTS = { all: 'trial_all', random: 'trial_random', shown: 'trial_shown' };
     const TEXTS_OF_LIVES = { all: 'trial_lives_all', random: 'trial_lives_random', shown: 'trial_lives_shown' };
 
     function trialText({ count, configurations, broken }, { comeBack }) {
         if (broken) return say('trial_broken', { count });
         const texts = comeBack ? TEXTS_OF_LIVES : TEXTS;
-        const tried = configurations ? say(texts.all, { count: configurations }) : say(texts.random, { count });
+        const tried = configurations ? say(texts.all, { count: grouped(configurations) }) : say(texts.random, { count, most: grouped(Cnum.MOST_CONFIGURATIONS) });
         return `${tried} ${say(texts.shown)}`;
     }
 

@@ -6,6 +6,7 @@ var Cnum = globalThis.Cnum || {};
     'use strict';
 
     const { button, element, lives, run, say, tableOf, wide } = Cnum;
+    const ON_PAPER = 700; // the width of a sheet, in points of a picture
 
     // What an event changed, as a text in brackets: the state of an object, or what a process remembers. An event that
     // changed neither has none.
@@ -36,15 +37,19 @@ var Cnum = globalThis.Cnum || {};
             this.nodes = wide(say('nodes'), '');
             this.diagram = wide(say('diagram'), '');
             this.diagram.addEventListener('scroll', () => Cnum.holdHeads(this.diagram));
+            this.diagram.classList.add('diagram');
             this.object = element('p', { class: 'object' });
+            this.last = element('h3', { class: 'last-step' });
+            const processes = element('div', { class: 'processes', 'data-count': this.columns.length }, ...this.columns.map(it => it.whole));
             place.replaceChildren(
+                this.last,
                 this.controls(),
-                element('div', { class: 'stage' }, element('div', { class: 'processes' }, ...this.columns.map(it => it.whole)), this.happened()),
+                element('div', { class: 'stage' }, processes, this.happened(), this.pictureOfRun(), this.statesOfRun()),
                 this.trouble,
-                ...this.figures(),
+                this.figures(),
+                this.keys,
             );
             Cnum.explainWords(place);
-            this.listen();
         }
 
         controls() {
@@ -69,34 +74,50 @@ var Cnum = globalThis.Cnum || {};
             const place = element('p', { class: 'run-place' }, label, this.slider, this.count);
             const last = this.plan.processes - 1;
             const ofCrashes = this.plan.comeBack ? [' ', say('run_keys_crash')] : [];
-            const keys = element('p', { class: 'quiet hint keys' }, say('run_keys', { last }), ...ofCrashes);
-            return element('div', { class: 'controls' }, element('div', { class: 'buttons' }, ...buttons), place, keys, this.trial);
+            this.keys = element('p', { class: 'quiet hint keys' }, say('run_keys', { last }), ...ofCrashes);
+            return element('div', { class: 'controls' }, element('div', { class: 'buttons' }, ...buttons), place, this.trial);
         }
 
         happened() {
             return element('div', { class: 'happened' }, element('h3', {}, say('log')), this.log);
         }
 
-        figures() {
-            this.pictures = new Map(); // of the states, by the nodes
-            this.states = wide(say('states_of_run'), '');
-            const kept = this.plan.comeBack ? [element('p', { class: 'quiet' }, say('objects_stay'))] : [];
-            const size = { style: `flex-basis: ${24 + 6 * teamsOf(this.plan).length}em` }; // with a column for each team
-            const objects = element('div', size, element('h3', {}, ...Cnum.marked('nodes')), this.nodes, ...kept, this.object, this.states);
-            return [
-                element('h3', {}, say('diagram')),
-                this.diagram,
-                this.savings('run', () => this.diagram.firstElementChild),
-                element('div', { class: 'figures' }, ...(this.plan.processes > 2 ? [this.tournament()] : []), objects),
-            ];
+        pictureOfRun() {
+            this.rows = element('div', { class: 'rows-on-paper', 'aria-hidden': 'true' });
+            return element('div', { class: 'of-run' }, element('h3', {}, say('diagram')), this.diagram, this.rows);
         }
 
+        // The run for paper, in rows that are not made smaller.
+        layOutForPaper() {
+            const events = this.protocol.events.slice(0, this.protocol.position);
+            const placed = Cnum.placeRun(events, this.protocol.inputs, Cnum.widthOf);
+            this.rows.replaceChildren(...Cnum.rowsOfRun(this.diagram.firstElementChild, placed, ON_PAPER));
+        }
+
+        // The object on which the last operation was, in the picture of the states.
+        statesOfRun() {
+            this.pictures = new Map(); // of the states, by the nodes
+            this.statesPlace = wide(say('states_of_run'), '');
+            this.statesPlace.classList.add('states-of-run');
+            return element('div', { class: 'of-object' }, this.object, this.statesPlace);
+        }
+
+        // Who meets whom, and what objects and registers hold.
+        figures() {
+            const kept = this.plan.comeBack ? [element('p', { class: 'quiet' }, say('objects_stay'))] : [];
+            const objects = element('div', {}, element('h3', {}, ...Cnum.marked('nodes')), this.nodes, ...kept);
+            const isMany = this.plan.processes > 2;
+            const figures = element('div', { class: 'figures' }, ...(isMany ? [this.tournament()] : []), objects);
+            const saving = this.savings('run', () => this.diagram.firstElementChild);
+            return Cnum.disclosure(say(isMany ? 'figures' : 'figures_of_two'), element('p', { class: 'hint' }, say('save_run')), saving, figures);
+        }
+
+        // The picture is as wide as its place at most, so that nothing of it is cut.
         tournament() {
             const picture = Cnum.tournamentOf(this.plan);
             this.meetings = picture;
             const head = element('h3', {}, say('tournament'));
-            const size = { style: `flex-basis: ${picture.getAttribute('width')}px` };
-            return element('div', size, head, wide(say('tournament'), picture), this.savings('tournament', () => picture));
+            return element('div', {}, head, element('div', { class: 'meetings' }, picture), this.savings('tournament', () => picture));
         }
 
         // The buttons that save a picture of this part.
@@ -151,21 +172,12 @@ var Cnum = globalThis.Cnum || {};
             return [element('label', { for: id }, say('proposes')), input, onPaper, wrong];
         }
 
-        // A number lets that process take a step, with Shift it stops, and behind a c it crashes. The letter u takes back what
-        // came last.
-        listen() {
-            const section = this.place.closest('section');
-            section.onkeydown = event => {
-                if (event.ctrlKey || event.altKey || event.metaKey || event.target.matches('select, input:not([type=range], [type=checkbox])')) return;
-                const { isBehindC } = this;
-                this.isBehindC = event.code === 'KeyC' && Boolean(this.protocol.plan && this.plan.comeBack);
-                const digit = /^(?:Digit|Numpad)([0-7])$/.exec(event.code);
-                const isThere = digit && Number(digit[1]) < this.plan.processes && this.protocol.plan;
-                if (isThere) this.protocol.act(Number(digit[1]), isBehindC ? run.CRASH : event.shiftKey ? run.STOP : run.STEP);
-                else if (event.code === 'KeyU') this.protocol.undo();
-                else if (!this.isBehindC) return;
-                event.preventDefault();
-            };
+        // In the large view, the pictures fill their places.
+        fit() {
+            if (!this.place.getClientRects().length) return;
+            Cnum.fitLarge([this.diagram], [this.statesPlace]);
+            Cnum.holdHeads(this.diagram);
+            if (!document.body.classList.contains('large')) Cnum.reveal(this.statesPlace, '.node.lit');
         }
 
         fail(why) {
@@ -192,6 +204,7 @@ var Cnum = globalThis.Cnum || {};
             this.showDiagram(events);
             this.showNodes(now.nodes);
             this.showObject(events, now.nodes);
+            this.fit();
         }
 
         // A button that had the focus and cannot be pressed any more hands it to the section, so that the keys
@@ -229,6 +242,8 @@ var Cnum = globalThis.Cnum || {};
             this.log.scrollTop = this.log.scrollHeight;
             const last = events[events.length - 1];
             this.protocol.page.say(last ? lineOf(last) : '');
+            const name = this.protocol.page.name();
+            this.last.textContent = last ? say('last_step', { name, count: events.length, step: lineOf(last) }) : name;
         }
 
         showDiagram(events) {
@@ -269,10 +284,10 @@ var Cnum = globalThis.Cnum || {};
             const text = last ? say('object_after', last) : say('object_start', { state });
             this.object.textContent = say('object_of_node', { node, text });
             const picture = this.statesOf(node);
-            this.states.replaceChildren(picture);
+            this.statesPlace.replaceChildren(picture);
             Cnum.lightUp(picture, state, last);
             Cnum.lightUp(this.protocol.page.mainPicture(), last ? state : null, last);
-            Cnum.reveal(this.states, '.node.lit');
+            Cnum.reveal(this.statesPlace, '.node.lit');
         }
     }
 

@@ -6,13 +6,14 @@ var Cnum = globalThis.Cnum || {};
     'use strict';
 
     // Takes the page as it is before anything is shown in it. Gives the function that makes the text of the
-    // file with a link in it, or null if the page has parts elsewhere.
+    // file with a link in it, whose title is the name of the type; or null if the page has parts elsewhere.
     Cnum.pageToSave = function () {
         if (document.querySelector('script[src]')) return null;
         const whole = document.documentElement.cloneNode(true);
-        return link => {
+        return (link, name) => {
             const copy = whole.cloneNode(true);
             copy.dataset.link = link;
+            if (name) copy.querySelector('title').textContent = name;
             return `<!doctype html>\n${copy.outerHTML}\n`;
         };
     };

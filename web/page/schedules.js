@@ -181,6 +181,8 @@ var Cnum = globalThis.Cnum || {};
         return areSame && areOfParticipants(attempt) && areShort(attempt.events, plan);
     }
 
+    Cnum.MOST_CONFIGURATIONS = MOST_CONFIGURATIONS;
+
     // Tries schedules of a plan. `run` gives for a schedule { events, inputs }, or null to end early. Answers how many there
     // were, the number of configurations if all schedules were tried, of those with the most crashes the one with the most
     // turns, and the one that is not right, if there is any.

@@ -9,6 +9,7 @@ var Cnum = globalThis.Cnum || {};
     const LEFT = 16;
     const TOP = 44;
     const APART = 78; // between two lines
+    const APART_SHORT = 54; // between two lines with texts above them alone
     const GAP = 18; // between the texts of two steps
     const LEAST = 62; // the width of a step
     const EMPTY = 260; // the length of a line before the first step
@@ -23,6 +24,7 @@ var Cnum = globalThis.Cnum || {};
         reads: it => [say('st_reads', it), say('st_node', it)],
         sees: it => [say('st_sees', it), say('st_node', it)],
         misses: it => [say('st_misses'), say('st_register', it)],
+        doubts: it => [say('st_reads', it), say('st_doubts')],
         takes: it => [say('st_takes', it), say('st_register', it)],
         decides: it => [say('st_decides', it), ''],
         stops: () => [say('st_stops'), ''],
@@ -38,23 +40,51 @@ var Cnum = globalThis.Cnum || {};
     Cnum.shortText = event => TEXTS[event.kind](event)[0];
 
     // The places of a run: for each event its point and texts, and for each process its line. `widthOf` gives
-    // the width of a text.
-    Cnum.placeRun = function (events, inputs, widthOf) {
+    // the width of a text. Where all is at one node, the texts need not say so, and the lines can be nearer.
+    Cnum.placeRun = function (events, inputs, widthOf, { apart = APART, isShort = false } = {}) {
         const heads = inputs.map((input, process) => say('st_head', { process, input }));
         const begin = LEFT + Math.max(...heads.map(widthOf)) + GAP;
         let right = begin;
         const marks = events.map(event => {
-            const texts = TEXTS[event.kind](event);
+            const texts = isShort && event.kind !== 'doubts' ? [TEXTS[event.kind](event)[0], ''] : TEXTS[event.kind](event);
             const width = Math.max(LEAST, ...texts.map(it => widthOf(it) + GAP));
             right += width;
-            return { event, texts, x: right - width / 2, y: TOP + APART * event.process };
+            return { event, texts, right, x: right - width / 2, y: TOP + apart * event.process };
         });
         const lines = heads.map((head, process) => {
             const last = marks.filter(it => it.event.process === process).pop();
             const hasEnded = last && ['decides', 'stops'].includes(last.event.kind);
-            return { head, from: begin, to: hasEnded ? last.x : Math.max(right, begin + EMPTY) + GAP, y: TOP + APART * process };
+            return { head, from: begin, to: hasEnded ? last.x : Math.max(right, begin + EMPTY) + GAP, y: TOP + apart * process };
         });
-        return { marks, lines, width: Math.max(right, begin + EMPTY) + 2 * GAP, height: TOP + APART * (inputs.length - 1) + 44 };
+        return { marks, lines, width: Math.max(right, begin + EMPTY) + 2 * GAP, height: TOP + apart * (inputs.length - 1) + 44 };
+    };
+
+    // The parts of a run, each no wider than this: where each begins and ends. It ends between two steps.
+    Cnum.partsOfRun = function ({ marks, lines }, width) {
+        const begin = lines[0].from;
+        const room = width - begin;
+        const parts = [];
+        let from = begin;
+        marks.forEach(({ right }, index) => {
+            const before = index ? marks[index - 1].right : begin;
+            if (right - from <= room || before === from) return;
+            parts.push({ from, to: before });
+            from = before;
+        });
+        return [...parts, { from, to: Math.max(marks.length ? marks[marks.length - 1].right : begin, lines[0].to) + GAP }];
+    };
+
+    // A run in rows for paper, one below the other: the picture of each part, with the names of the processes before it.
+    Cnum.rowsOfRun = function (picture, placed, width) {
+        const begin = placed.lines[0].from;
+        return Cnum.partsOfRun(placed, width).map(({ from, to }) => {
+            const copy = picture.cloneNode(true);
+            const left = from - begin;
+            Cnum.setAll(copy, { viewBox: `${left} 0 ${to - left} ${placed.height}`, width: to - left });
+            copy.removeAttribute('style');
+            copy.querySelector('.heads').setAttribute('transform', `translate(${left},0)`);
+            return copy;
+        });
     };
 
     const square = (x, y, half, more) => svgElement('rect', { x: x - half, y: y - half, width: 2 * half, height: 2 * half, ...more });
@@ -70,6 +100,7 @@ var Cnum = globalThis.Cnum || {};
         reads: openCircle,
         sees: openCircle,
         misses: openSquare,
+        doubts: openCircle,
         takes: openSquare,
         decides: ({ x, y }) => svgElement('circle', { cx: x, cy: y, r: MARK + 2, class: 'end' }),
         stops: ({ x, y }) => svgElement('path', { d: `M${x - 7},${y - 7}l14,14m0,-14l-14,14`, class: 'cross' }),
@@ -92,6 +123,9 @@ var Cnum = globalThis.Cnum || {};
 
     const line = ({ from, to, y }) => svgElement('path', { class: 'world-line', d: `M${from},${y}H${to}` });
 
+    // What lies behind the line of a process that stands out.
+    const band = ({ y }, width) => svgElement('rect', { class: 'band', x: 0, y: y - 30, width, height: 60 });
+
     // The names of the processes, over what is behind them: they stay in view if the diagram scrolls.
     function heads(lines, height) {
         const ground = svgElement('rect', { x: -LEFT, y: 0, width: LEFT + lines[0].from - GAP / 2, height });
@@ -104,13 +138,15 @@ var Cnum = globalThis.Cnum || {};
         if (names) names.setAttribute('transform', `translate(${place.scrollLeft},0)`);
     };
 
-    // The diagram as an element. A process has the team of its place at the node of the event.
-    Cnum.spaceTime = function (events, inputs, plan) {
-        const { marks, lines, width, height } = Cnum.placeRun(events, inputs, Cnum.widthOf);
+    // The diagram as an element. A process has the team of its place at the node of the event. The one that cannot tell stands
+    // out, if there is one.
+    Cnum.spaceTime = function (events, inputs, plan, { doubting = null, isShort = false } = {}) {
+        const { marks, lines, width, height } = Cnum.placeRun(events, inputs, Cnum.widthOf, isShort ? { apart: APART_SHORT, isShort } : {});
         const teamOf = ({ process, node }) => (plan.paths[process].find(it => it.node === node) || {}).team;
         const size = { viewBox: `0 0 ${Math.ceil(width)} ${height}`, width: Math.ceil(width), height };
         const about = say('st_about', { processes: inputs.length, steps: events.length });
-        const parts = [...lines.map(line), ...marks.map(it => mark(it, teamOf)), heads(lines, height)];
+        const bands = doubting === null ? [] : [band(lines[doubting], width)];
+        const parts = [...bands, ...lines.map(line), ...marks.map(it => mark(it, teamOf)), heads(lines, height)];
         return svgElement('svg', { class: 'space-time', role: 'img', 'aria-label': about, ...size }, ...parts);
     };
 })();
