@@ -1059,7 +1059,7 @@ def adversaries(use):
     for n in (2, 3):
         use.open(f"#example=types/sticky_bit&limit={n}&crashes=yes")
         use.press("Try to break it")
-        well = use.until(TRIED, 240) and use.trial().startswith("In every schedule, wherever processes stop and however often they crash")
+        well = use.until(TRIED, 900) and use.trial().startswith("In every schedule, wherever processes stop and however often they crash")
         yield f"schedules of {n} that come back", well, use.trial()
         shown = "Cnum.page.protocol.events.filter(it => it.kind === 'crashes').length"
         yield "the one that is shown has crashes", use.until(f"{shown} > 1", 5), use.value(shown)
