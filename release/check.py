@@ -110,12 +110,13 @@ class Type:  # states, operations, processes and entries have numbers, from 0
         demand(i < len(one) and j < len(two) and one[i] == two[j], "a place that is none, or two operations")
         (shown, last), (other, end) = (self.run(start, word, range(len(word))) for word in (one, two))
         return (shown[i], last) == (other[j], end)
-    def connect(self, needs, there, others, left):  # all stocks with these operations and so many more of the others
+    def connect(self, needs, there, others, left):  # all stocks with these operations and so many more of the others, no two of one row of next states
         if not others:
             part = {*there[:1]}
             while more := {x for _, *pair in needs for x in pair if part & {*pair}} - part: part |= more
             return demand(part >= {*there}, f"joins do not connect {there}")
-        for count in range(0 if others[1:] else left, left + 1):
+        differs = all(any(one[1] != two[1] for one, two in zip(self.act[others[0]], self.act[it])) for it in there)
+        for count in range(0 if others[1:] else left, left * differs + 1):
             self.connect([it for it in needs if it[0][others[0]] <= count], there + others[:1] * (count > 0), others[1:], left - count)
     def is_team_witness(self, start, look, operations, team_of):  # by its response, and by what it sees of the last state, each process tells the first team
         seen = [look and q if type(look) is bool else self.act[look][q][0] for q in range(len(self.states))]

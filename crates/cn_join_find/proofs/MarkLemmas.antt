@@ -7,6 +7,7 @@ use Rattle.cn_stocks.specs.declared.stocks.Stock.{Stock}
 use Rattle.cn_stocks.specs.Words.{HaveSame, IsWithin, times}
 use Rattle.cn_stocks.proofs.Fewer.{beside}
 use Rattle.cn_stocks.proofs.Times.{one_at, one_else, one_of, same_has, same_or, times_cons}
+use Rattle.cn_telling.specs.Rows.{RowsDiffer}
 use Rattle.cn_telling.proofs.CellLemmas.{at_push}
 use Rattle.cn_table.specs.TypeTable.{TypeTable}
 use Rattle.cn_join_find.specs.Marks.{AreMarked}
@@ -63,23 +64,33 @@ shared x y stock us vs n same other three =
       | inr m ↦ omega (arith, same z, here z, times_cons z x xs, times_cons z z rest, one_at z, one_else z x m)
     ]
 
+-- ---- the rows of stocks
+
+-- those of what is left of a stock differ too
+pub rows_less : (t : TypeTable) (x : ℕ) (stock rest : List ℕ) → HaveSame stock (x ∷ rest) → RowsDiffer t stock → RowsDiffer t rest
+rows_less t x stock rest same differ o has early = differ o (stays o has) (early.0, early.1, stays early.0 early.2, early.3)
+  where
+    stays : (o : ℕ) → 1 ≤ times o rest → 1 ≤ times o stock
+    stays o l = omega (arith, l, same o, times_cons o x rest)
+
 -- ---- marks
 
 -- the marks of the first stocks
-pub record AreMarkedFirst (start : ℕ) (joins : List Join) (stocks : List Stock) (marks : List Bool) : Type 0 where
-  pub connect : (i : ℕ) (s : Stock) → slice_get stocks i ≡ Some s → slice_get marks i ≡ Some false → Connect joins start s.operations.items
+pub record AreMarkedFirst (t : TypeTable) (start : ℕ) (joins : List Join) (stocks : List Stock) (marks : List Bool) : Type 0 where
+  pub connect : (i : ℕ) (s : Stock) → slice_get stocks i ≡ Some s → slice_get marks i ≡ Some false → RowsDiffer t s.operations.items → Connect joins start s.operations.items
 
-pub marks_more : (t : TypeTable) (start : ℕ) (xs ys : List Join) (stocks : List Stock) (marks : List Bool) → AreMore t start xs ys → AreMarkedFirst start xs stocks marks → AreMarkedFirst start ys stocks marks
-marks_more t start xs ys stocks marks more o = record { connect = λ i s at mark. still_connect t start xs ys s.operations.items more (o.connect i s at mark) }
+module _ (t : TypeTable) (start : ℕ) where
+  pub marks_more : (xs ys : List Join) (stocks : List Stock) (marks : List Bool) → AreMore t start xs ys → AreMarkedFirst t start xs stocks marks → AreMarkedFirst t start ys stocks marks
+  marks_more xs ys stocks marks more o = record { connect = λ i s at mark differ. still_connect t start xs ys s.operations.items more (o.connect i s at mark differ) }
 
-pub marks_still : (t : TypeTable) (start : ℕ) (xs ys : List Join) (stocks : List Stock) (marks : List Bool) → AreMore t start xs ys → AreMarked start xs stocks marks → AreMarked start ys stocks marks
-marks_still t start xs ys stocks marks more o = record { count = o.count; connect = λ i s at mark. still_connect t start xs ys s.operations.items more (o.connect i s at mark) }
+  pub marks_still : (xs ys : List Join) (stocks : List Stock) (marks : List Bool) → AreMore t start xs ys → AreMarked t start xs stocks marks → AreMarked t start ys stocks marks
+  marks_still xs ys stocks marks more o = record { count = o.count; connect = λ i s at mark differ. still_connect t start xs ys s.operations.items more (o.connect i s at mark differ) }
 
-pub marks_push : (start : ℕ) (joins : List Join) (stocks : List Stock) (marks new : List Bool) (stock : Stock) (mark : Bool) → new ≡ marks ++ mark ∷ [] → slice_get stocks (length marks) ≡ Some stock
-    → (mark ≡ false → Connect joins start stock.operations.items) → AreMarkedFirst start joins stocks marks → AreMarkedFirst start joins stocks new
-marks_push start joins stocks marks new stock mark e at here o = record {
-  connect = λ i s at_s told. elim (at_push marks mark i false (subst (λ (l : List Bool). slice_get l i ≡ Some false) e told)) [
-    | inl h ↦ o.connect i s at_s h.1
-    | inr h ↦ subst (λ (x : Stock). Connect joins start x.operations.items) (same_Some stock s (sym at ∙ (ap (slice_get stocks) (sym h.0) ∙ at_s))) (here h.1)
-  ];
-}
+  pub marks_push : (joins : List Join) (stocks : List Stock) (marks new : List Bool) (stock : Stock) (mark : Bool) → new ≡ marks ++ mark ∷ [] → slice_get stocks (length marks) ≡ Some stock
+      → (mark ≡ false → RowsDiffer t stock.operations.items → Connect joins start stock.operations.items) → AreMarkedFirst t start joins stocks marks → AreMarkedFirst t start joins stocks new
+  marks_push joins stocks marks new stock mark e at here o = record {
+    connect = λ i s at_s told. elim (at_push marks mark i false (subst (λ (l : List Bool). slice_get l i ≡ Some false) e told)) [
+      | inl h ↦ o.connect i s at_s h.1
+      | inr h ↦ subst (λ (x : Stock). RowsDiffer t x.operations.items → Connect joins start x.operations.items) (same_Some stock s (sym at ∙ (ap (slice_get stocks) (sym h.0) ∙ at_s))) (here h.1)
+    ];
+  }

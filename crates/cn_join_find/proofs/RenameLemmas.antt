@@ -14,7 +14,8 @@ use Rattle.cn_copies.proofs.Picked.{picked_at, picked_step, place, place_at}
 use Rattle.cn_stocks.specs.Words.{IsKnown, IsWithin, times}
 use Rattle.cn_stocks.proofs.StockLemmas.{before_or_behind}
 use Rattle.cn_stocks.proofs.Times.{one_else, one_of, same_or, times_at, times_cons, times_none}
-use Rattle.cn_joins.specs.Evidence.{ConnectAll, HasNoCopies, HasRowOfEarlier, row_of}
+use Rattle.cn_telling.specs.Rows.{next_row}
+use Rattle.cn_joins.specs.Evidence.{ConnectAll, HasRowOfEarlier, MustBeConnected, row_of}
 use Rattle.cn_joins.specs.Joins.{Connect, IsJoin, IsJoinWithin, IsPlacedWord, Join, KeepsApart, PlacedWord, pair_of_word}
 use Rattle.cn_join_find.specs.Renaming.{IsOfFirst, renamed, renamed_placed}
 
@@ -133,7 +134,7 @@ module _ (t : TypeTable) (kept : List ℕ) where
     pub joins_renamed : (joins : List Join) → All (IsJoin (with_operations t kept)) joins → All (IsJoin t) (map (renamed kept) joins)
     joins_renamed joins are = All-map (IsJoin t) (renamed kept) joins (All-weaker (IsJoin (with_operations t kept)) (λ join. IsJoin t (renamed kept join)) join_renamed joins are)
 
-  -- ---- stocks without copies
+  -- ---- stocks that must be connected
 
   module _ (table : IsTypeTable t) (first : AreFirst t kept) where
     one_number : (x y : ℕ) → x < length kept → y < length kept → slice_index kept x ≡ slice_index kept y → x ≡ y
@@ -142,12 +143,12 @@ module _ (t : TypeTable) (kept : List ℕ) where
       | inr u ↦ elim (before_or_behind y x) [ inl l ↦ absurd (omega (arith, e, first.are.ascending y x 0 l x_known)) | inr v ↦ omega (arith, u, v) ]
     ]
 
-    module _ (stock : List ℕ) (in_table : IsKnown (length t.operations) stock) (none : HasNoCopies t stock) where
+    module _ (stock : List ℕ) (in_table : IsKnown (length t.operations) stock) (must : MustBeConnected t stock) where
       abbrev small : List ℕ
       small = map (λ o. place o kept) stock
 
       stands : (o : ℕ) → 1 ≤ times o stock → (place o kept < length kept) × (slice_index kept (place o kept) ≡ o)
-      stands o l = place_at o kept (IsIn-from_Contains o kept ((first.each o).1 (in_table o l, λ copy. none o l (copy_has_row t table o (in_table o l) copy))))
+      stands o l = place_at o kept (IsIn-from_Contains o kept ((first.each o).1 (in_table o l, λ copy. must.no_copies o l (copy_has_row t table o (in_table o l) copy))))
 
       back : map (slice_index kept) small ≡ stock
       back = there_and_back (λ o. place o kept) (slice_index kept) stock (λ o l. (stands o l).1)
@@ -158,21 +159,39 @@ module _ (t : TypeTable) (kept : List ℕ) where
       row_same : (i : ℕ) → i < length kept → row_of (with_operations t kept) i ≡ row_of t (slice_index kept i)
       row_same i l = picked_at t.operations kept i l
 
-      small_none : HasNoCopies (with_operations t kept) small
-      small_none i l (p, below, same) =
+      -- an operation of the new stock, under its number in the type
+      number_of : (i : ℕ) → 1 ≤ times i small → (i < length kept) × (1 ≤ times (slice_index kept i) stock)
+      number_of i l =
           let r = image_of (λ o. place o kept) i stock l in
           let at = stands r.0 r.1 in
-          let known : i < length kept = omega (arith, at.0, r.2) in
-          let number : r.0 ≡ slice_index kept i = sym at.1 ∙ ap (slice_index kept) r.2 in
-          let early : p < length kept = omega (arith, below, known) in
-          none (slice_index kept i) (subst (λ (o : ℕ). 1 ≤ times o stock) number r.1) (
-            slice_index kept p,
-            first.are.ascending p i 0 below known,
-            (
-              sym (ap (λ (row : Row). row.response) (row_same p early)) ∙ (same.0 ∙ ap (λ (row : Row). row.response) (row_same i known)),
-              sym (ap (λ (row : Row). row.next) (row_same p early)) ∙ (same.1 ∙ ap (λ (row : Row). row.next) (row_same i known)),
-            ),
-          )
+          (omega (arith, at.0, r.2), subst (λ (o : ℕ). 1 ≤ times o stock) (sym at.1 ∙ ap (slice_index kept) r.2) r.1)
+
+      response_same : (i : ℕ) → i < length kept → (row_of (with_operations t kept) i).response ≡ (row_of t (slice_index kept i)).response
+      response_same i l = ap (λ (row : Row). row.response) (row_same i l)
+
+      next_same : (i : ℕ) → i < length kept → next_row (with_operations t kept) i ≡ next_row t (slice_index kept i)
+      next_same i l = ap (λ (row : Row). row.next) (row_same i l)
+
+      small_must : MustBeConnected (with_operations t kept) small
+      small_must = record {
+        no_copies = λ i l copy.
+            let known = (number_of i l).0 in
+            let early : copy.0 < length kept = omega (arith, copy.1, known) in
+            must.no_copies (slice_index kept i) (number_of i l).1 (
+              slice_index kept copy.0,
+              first.are.ascending copy.0 i 0 copy.1 known,
+              (sym (response_same copy.0 early) ∙ (copy.2.0 ∙ response_same i known), sym (next_same copy.0 early) ∙ (copy.2.1 ∙ next_same i known)),
+            );
+        rows_differ = λ i l other.
+            let known = (number_of i l).0 in
+            let early = number_of other.0 other.2 in
+            must.rows_differ (slice_index kept i) (number_of i l).1 (
+              slice_index kept other.0,
+              first.are.ascending other.0 i 0 other.1 known,
+              early.1,
+              sym (next_same other.0 early.0) ∙ (other.3 ∙ next_same i known),
+            );
+      }
 
       within_renamed : (word : List ℕ) → IsKnown (length kept) word → IsWithin small word → IsWithin stock (map (slice_index kept) word)
       within_renamed word known within o = elim (before_or_behind 0 (times o (map (slice_index kept) word))) [
@@ -206,5 +225,5 @@ module _ (t : TypeTable) (kept : List ℕ) where
             sym (ap chosen (stands f in_f).1) ∙ (here ∙ ap chosen (stands g in_g).1)
 
     pub all_renamed : (n : ℕ) (joins : List Join) → All (IsJoin (with_operations t kept)) joins → ConnectAll (with_operations t kept) n joins → ConnectAll t n (map (renamed kept) joins)
-    all_renamed n joins are connect start known stock in_table long none = connect_renamed stock in_table none start joins are
-        (connect start known (small stock in_table none) (small_known stock in_table none) (length-map stock (λ o. place o kept) ∙ long) (small_none stock in_table none))
+    all_renamed n joins are connect start known stock in_table long must = connect_renamed stock in_table must start joins are
+        (connect start known (small stock in_table must) (small_known stock in_table must) (length-map stock (λ o. place o kept) ∙ long) (small_must stock in_table must))

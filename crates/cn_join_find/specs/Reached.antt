@@ -3,6 +3,7 @@ use Rattle.std.specs.Prelude.{◌≡◌, ℕ, ◌≤◌, List, ◌++◌, length,
 use Rattle.cn_table.specs.TypeTable.{TypeTable}
 use Rattle.cn_joins.specs.Joins.{Connect, IsJoin, Join, KeepsApart}
 use Rattle.cn_stocks.specs.Words.{IsKnown, times}
+use Rattle.cn_telling.specs.Rows.{RowsDiffer}
 
 -- wherever the joins keep the chosen operations and the others apart, each of the set is chosen
 -- exactly if the first one is
@@ -29,8 +30,8 @@ pub record AreMore (t : TypeTable) (start : ℕ) (old new : List Join) : Type 0 
   pub goes_on : new ≡ old ++ more
   pub are : All (IsJoinFrom t start) more
 
--- the joins connect the operations of each stock of n, from this state
+-- the joins connect the operations of each stock of n whose rows differ, from this state
 abbrev pub ConnectFrom : TypeTable → ℕ → ℕ → List Join → Type 0
 ConnectFrom t n start joins =
     (stock : List ℕ) → IsKnown (length t.operations) stock → length stock ≡ n
-    → Connect joins start stock
+    → RowsDiffer t stock → Connect joins start stock

@@ -13,6 +13,7 @@ use crate::likely::likely_split;
 use crate::marks::{Below, is_left, part_of};
 use crate::notices::some_notices;
 use crate::renaming::renamed_joins;
+use crate::rows::rows_differ;
 use crate::split::{Split, split_by};
 use cn_copies::first_operations;
 use cn_copies::laws::copies_tell_nothing;
@@ -39,11 +40,12 @@ fn all_marks(
     requires start { start < length table.now.states }
     requires search { IsSearch table.now n search.now }
     requires some { 1 ≤ n }
-    requires marks { AreMarked start joins.old.items search.now.below.stocks.list.items marks.now }
+    requires marks { AreMarked table.now start joins.old.items
+        search.now.below.stocks.list.items marks.now }
     requires joins { All (IsJoinFrom table.now start) joins.old.items }
     ensures more { OnOk result (AreMore table.now start joins.old.items joins.new.items) }
-    ensures marks { IfOk result (λ all. AreMarked start joins.new.items search.now.stocks.list.items
-        all.items) }
+    ensures marks { IfOk result (λ all. AreMarked table.now start joins.new.items
+        search.now.stocks.list.items all.items) }
 {
     let (_n, _states) = (n, table.states());
     let below = Below {
@@ -54,15 +56,20 @@ fn all_marks(
     let starts = search.starts.as_slice();
     let mut all = Vec::with_capacity(alloc, stocks.len())?;
     for place in 0..stocks.len() {
+        let stock = &stocks[place];
+        if !rows_differ(table, stock) {
+            all.push(false)?;
+            continue;
+        }
         let tells = contains(starts[place], start);
-        let mark = is_left(alloc, table, start, &below, &stocks[place], tells, joins)?;
+        let mark = is_left(alloc, table, start, &below, stock, tells, joins)?;
         all.push(mark)?;
     }
     Ok(all)
 }
 
-/// Adds joins that connect the operations of each stock of the search; or answers a witness, if one
-/// of these splits.
+/// Adds joins that connect the operations of each stock of the search whose rows differ; or answers
+/// a witness, if one of these splits.
 fn first_split(
     alloc: Global,
     table: &Table,
@@ -75,11 +82,12 @@ fn first_split(
     requires start { start < length table.now.states }
     requires search { IsSearch table.now n search.now }
     requires some { 1 ≤ n }
-    requires marks { AreMarked start joins.old.items search.now.below.stocks.list.items marks.now }
+    requires marks { AreMarked table.now start joins.old.items
+        search.now.below.stocks.list.items marks.now }
     requires joins { All (IsJoinFrom table.now start) joins.old.items }
     ensures more { OnOk result (AreMore table.now start joins.old.items joins.new.items) }
     ensures split { IfOk result (λ found. MatchOption found
-        (ConnectEach start joins.new.items search.now.stocks.list.items)
+        (ConnectEach table.now start joins.new.items search.now.stocks.list.items)
         (IsWitnessFor table.now n)) }
 {
     let _n = n;
@@ -88,6 +96,9 @@ fn first_split(
         marks,
     };
     for stock in &search.stocks.list {
+        if !rows_differ(table, stock) {
+            continue;
+        }
         let found = part_of(alloc, table, start, &below, stock, joins)?;
         if let Some(set) = found {
             let split = split_by(alloc, table, start, stock.operations.as_slice(), set)?;
@@ -110,7 +121,7 @@ fn all_marked(alloc: Global, count: usize) -> Result<Vec<bool>, AllocError>
 }
 
 /// Whether these are stocks of at least two operations, and none of them is marked. Then joins
-/// connect all larger stocks too.
+/// connect all larger stocks whose rows differ too.
 fn are_all_connected(marks: &[bool], size: u8) -> bool
     ensures { IsTrue result → (2 ≤ size) × ((i : ℕ) → slice_get marks.now i ≢ Some true) }
 {
@@ -125,8 +136,8 @@ fn are_all_connected(marks: &[bool], size: u8) -> bool
     true
 }
 
-/// Adds joins that connect the operations of each stock of n from the state; or answers a witness,
-/// if one of these splits.
+/// Adds joins that connect the operations of each stock of n whose rows differ, from the state; or
+/// answers a witness, if one of these splits.
 fn decide_from<T: Threads + Sync>(
     rt: &T,
     alloc: Global,
@@ -158,8 +169,8 @@ fn decide_from<T: Threads + Sync>(
     Ok(found)
 }
 
-/// Adds joins that connect the operations of each stock of n from each state; or answers a witness,
-/// if one of these splits.
+/// Adds joins that connect the operations of each stock of n that must be connected, from each
+/// state; or answers a witness, if one of these splits.
 fn decide<T: Threads + Sync>(
     rt: &T,
     alloc: Global,
@@ -193,8 +204,8 @@ fn is_decided_by_one(table: &Table, n: u8) -> bool
     n == 2 && some_notices(table)
 }
 
-/// Joins that connect the operations of each stock of n from each state; none if one of these
-/// splits, so that the type is n-discerning.
+/// Joins that connect the operations of each stock of n that must be connected, from each state;
+/// none if one of these splits, so that the type is n-discerning.
 fn connecting_joins<T: Threads + Sync>(
     rt: &T,
     alloc: Global,
@@ -250,7 +261,7 @@ fn joins_of_first<T: Threads + Sync>(
 /// From each state the search goes up by one operation. Smaller stocks that joins connect connect
 /// most others. Of the rest, one that tells has no joins, and of each other one the pairs that words
 /// within it show are made, and give the next joins. Operations that are copies of earlier ones are
-/// left out.
+/// left out, and stocks with two different operations that lead from each state to the same one.
 ///
 /// # Errors
 ///

@@ -5,7 +5,8 @@
 //! Of the others that do not tell the pairs that words within them show are made.
 //!
 //! The search for joins leaves out operations that are copies of earlier ones. Its joins then get the
-//! numbers that their operations have in the whole table.
+//! numbers that their operations have in the whole table. It looks at no stock with two different
+//! operations that lead from each state to the same one.
 //!
 //! ```text
 //! let joins = find_joins(rt, alloc, &table, 10, Threading::Many)?;
@@ -21,6 +22,7 @@ mod meeting;
 mod notices;
 mod reach;
 mod renaming;
+mod rows;
 mod split;
 mod steps;
 #[cfg(test)]

@@ -1,6 +1,7 @@
 //! Which stocks are not known to be connected.
 ghost use Rattle.std.specs.Prelude.{◌≡◌, ◌≤◌, ◌<◌, ℕ, List, All, IfOk, IfSome, IsTrue, MatchOption, OnOk, false, length};
 ghost use Rattle.cn_joins.specs.Joins.{Connect, Join};
+ghost use Rattle.cn_table.specs.TypeTable.{TypeTable};
 ghost use Rattle.cn_join_find.specs.Crossing.{IsPart};
 ghost use Rattle.cn_join_find.specs.Marks.{IsAbove, IsConnectedWithout};
 ghost use Rattle.cn_join_find.specs.Reached.{AreMore, IsJoinFrom};
@@ -14,7 +15,7 @@ use cn_table::{MOST_OPERATIONS, Table};
 use std::alloc::{AllocError, Global};
 
 /// The stocks of one operation less, and a mark for each of them: false where joins are known to
-/// connect its operations.
+/// connect its operations, or its rows do not differ.
 #[derive(Clone, Copy)]
 pub(crate) struct Below<'s> {
     pub stocks: &'s [Stock],
@@ -23,11 +24,11 @@ pub(crate) struct Below<'s> {
 
 /// The first operation from this one on without one of which joins connect the stock.
 fn connected_without(below: &Below<'_>, stock: &Stock, from: usize) -> Option<usize>
-    requires { (operations : ℕ) × ((start : ℕ) × ((joins : List Join)
-        × IsAbove operations start joins below.now stock.now)) }
+    requires { (t : TypeTable) × ((start : ℕ) × ((joins : List Join)
+        × IsAbove t start joins below.now stock.now)) }
     ensures range { IfSome result (λ x. (from ≤ x) × (x < MOST_OPERATIONS)) }
-    ensures connected { (operations start : ℕ) (joins : List Join)
-        → IsAbove operations start joins below.now stock.now
+    ensures connected { (t : TypeTable) (start : ℕ) (joins : List Join)
+        → IsAbove t start joins below.now stock.now
         → IfSome result (IsConnectedWithout joins start stock.now.operations.items) }
 {
     let marks = below.marks;
@@ -45,10 +46,10 @@ fn connected_without(below: &Below<'_>, stock: &Stock, from: usize) -> Option<us
 /// Whether smaller stocks connect the operations of this one: two of them, or one that has all its
 /// operations.
 fn is_connected(below: &Below<'_>, stock: &Stock) -> bool
-    requires { (operations : ℕ) × ((start : ℕ) × ((joins : List Join)
-        × IsAbove operations start joins below.now stock.now)) }
-    ensures { (operations start : ℕ) (joins : List Join)
-        → IsAbove operations start joins below.now stock.now → IsTrue result
+    requires { (t : TypeTable) × ((start : ℕ) × ((joins : List Join)
+        × IsAbove t start joins below.now stock.now)) }
+    ensures { (t : TypeTable) (start : ℕ) (joins : List Join)
+        → IsAbove t start joins below.now stock.now → IsTrue result
         → Connect joins start stock.now.operations.items }
 {
     let operations = stock.operations.as_slice();
@@ -78,8 +79,7 @@ pub(crate) fn is_left(
     tells: bool,
     joins: &mut Vec<Join>,
 ) -> Result<bool, AllocError>
-    requires above { IsAbove (length table.now.operations) start joins.old.items below.now
-        stock.now }
+    requires above { IsAbove table.now start joins.old.items below.now stock.now }
     requires some { 1 ≤ length stock.now.operations.items }
     requires start { start < length table.now.states }
     requires joins { All (IsJoinFrom table.now start) joins.old.items }
@@ -110,8 +110,7 @@ pub(crate) fn part_of(
     stock: &Stock,
     joins: &mut Vec<Join>,
 ) -> Result<Option<u16>, AllocError>
-    requires above { IsAbove (length table.now.operations) start joins.old.items below.now
-        stock.now }
+    requires above { IsAbove table.now start joins.old.items below.now stock.now }
     requires some { 1 ≤ length stock.now.operations.items }
     requires start { start < length table.now.states }
     requires joins { All (IsJoinFrom table.now start) joins.old.items }

@@ -61,6 +61,34 @@ fn joins_behind_a_copy(rt: HostRuntime) -> Result<(), Fail> {
     Ok(())
 }
 
+fn register_of_two_names() -> &'static str {
+    r#"name = "register_of_two_names"
+states = ["zero", "one"]
+responses = ["ok", "done"]
+[[operation]]
+name = "write0"
+response = ["ok", "ok"]
+next = ["zero", "zero"]
+[[operation]]
+name = "put0"
+response = ["done", "done"]
+next = ["zero", "zero"]
+[[operation]]
+name = "write1"
+response = ["ok", "ok"]
+next = ["one", "one"]
+"#
+}
+
+#[test]
+fn no_joins_of_one_row(rt: HostRuntime) -> Result<(), Fail> {
+    let alloc = rt.alloc();
+    let table = read_table(alloc, register_of_two_names().as_bytes())?;
+    let joins = find_joins(&rt, alloc, &table, 2, Threading::One)?;
+    assert!(rt; joins.is_some_and(|joins| joins.len() == 4));
+    Ok(())
+}
+
 #[test]
 fn witness_of_three_shot(rt: HostRuntime) -> Result<(), Fail> {
     let alloc = rt.alloc();

@@ -10,7 +10,7 @@ use Rattle.cn_stocks.proofs.Witnesses.{to_splits, to_witness}
 use Rattle.cn_joins.specs.Evidence.{IsEvidenceAgainst, SomeNotices}
 use Rattle.cn_joins.specs.Joins.{Connect, IsJoin, Join}
 use Rattle.std.proofs.lemmas.List.Elements.{Contains-append_left, Contains-append_right}
-use Rattle.cn_joins.proofs.CopyLemmas.{without_copies}
+use Rattle.cn_joins.proofs.CopyLemmas.{to_connect}
 use Rattle.cn_joins.proofs.Gathering.{Grows, for_each, for_each_list}
 use Rattle.cn_joins.proofs.Joined.{connecting}
 use Rattle.cn_joins.proofs.Soundness.{no_split}
@@ -20,7 +20,7 @@ use Rattle.cn_joins.proofs.TwoProcesses.{two}
 
 none_splits : (t : TypeTable) (n : ℕ) (joins : List Join) → 2 ≤ n → IsEvidenceAgainst t n joins → ¬ SomeSplits t n
 none_splits t n joins l e s =
-    let from = without_copies t n s.0 l e.none_notices s.1 s.2 in
+    let from = to_connect t n s.0 l e.none_notices s.1 s.2 in
     no_split t s.0 from.0 joins e.are_joins (e.connect s.0 s.1 from.0 from.1 from.2 from.3) from.4
 
 pub refuted : (t : TypeTable) (n : ℕ) (joins : List Join) → 2 ≤ n → IsEvidenceAgainst t n joins → ¬ IsDiscerning t n
@@ -66,7 +66,7 @@ module _ (t : TypeTable) (n : ℕ) (none : ¬ SomeSplits t n) where
     of_all.0,
     record {
       are_joins = of_all.1;
-      connect = λ start known stock in_table long none_copied. of_all.2 start known stock long in_table;
+      connect = λ start known stock in_table long must. of_all.2 start known stock long in_table;
       none_notices = quiet;
     },
   )

@@ -2,6 +2,7 @@
 use Rattle.std.specs.Prelude.{◌≡◌, ◌≢◌, ℕ, ◌<◌, ◌≤◌, List, length, All, slice_index_or}
 use Rattle.cn_table.specs.TypeTable.{Row, TypeTable, no_row, transition}
 use Rattle.cn_stocks.specs.Words.{IsKnown, times}
+use Rattle.cn_telling.specs.Rows.{RowsDiffer}
 use Rattle.cn_joins.specs.Joins.{Connect, IsJoin, Join}
 
 -- the operation, done twice in a row from the state, gives another response the second time
@@ -30,14 +31,20 @@ HasRowOfEarlier t o = (p : ℕ) × (p < o) × HaveSameRows t p o
 abbrev pub HasNoCopies : TypeTable → List ℕ → Type 0
 HasNoCopies t stock = (o : ℕ) → 1 ≤ times o stock → ¬ HasRowOfEarlier t o
 
--- from each state the joins connect the operations of each stock of n of them that has no copies
+-- the stock must be connected: it has no copies, and no two different operations that lead from each
+-- state to the same one
+pub record MustBeConnected (t : TypeTable) (stock : List ℕ) : Type 0 where
+  pub no_copies : HasNoCopies t stock
+  pub rows_differ : RowsDiffer t stock
+
+-- from each state the joins connect the operations of each stock of n that must be connected
 abbrev pub ConnectAll : TypeTable → ℕ → List Join → Type 0
 ConnectAll t n joins =
     (start : ℕ) → start < length t.states → (stock : List ℕ) → IsKnown (length t.operations) stock
-    → length stock ≡ n → HasNoCopies t stock → Connect joins start stock
+    → length stock ≡ n → MustBeConnected t stock → Connect joins start stock
 
--- joins of the type connect the operations of each stock of n without copies; two processes can also
--- do one operation in two teams, so for two no operation notices itself
+-- joins of the type connect the operations of each stock of n that must be connected; two processes
+-- can also do one operation in two teams, so for two no operation notices itself
 pub record IsEvidenceAgainst (t : TypeTable) (n : ℕ) (joins : List Join) : Type 0 where
   pub are_joins : All (IsJoin t) joins
   pub connect : ConnectAll t n joins

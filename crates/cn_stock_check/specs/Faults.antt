@@ -61,7 +61,7 @@ abbrev pub NoticesItselfSomewhere : TypeTable → ℕ → Type 0
 NoticesItselfSomewhere t o = (o < length t.operations)
     × ((start : ℕ) × (start < length t.states) × NoticesItself t start o)
 
--- the joins do not connect each stock of n operations without copies from the state
+-- the joins do not connect each stock of n operations that must be connected, from the state
 abbrev pub IsLeftOpen : TypeTable → ℕ → List Join → ℕ → Type 0
 IsLeftOpen t n joins start =
     (start < length t.states) × ¬ ConnectFrom t n joins start

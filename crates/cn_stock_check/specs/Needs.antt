@@ -1,9 +1,12 @@
 -- How often a stock has to have each operation, for the words of a join to be within it.
-use Rattle.std.specs.Prelude.{◌≡◌, ℕ, ◌<◌, ◌≤◌, ◌↔◌, List, length, slice_index, Bool, Contains, All, ◌++◌}
+use Rattle.std.specs.Prelude.{◌≡◌, ℕ, ◌<◌, ◌≤◌, ◌↔◌, ◌⊎◌, List, length, slice_index, Bool}
+use Rattle.std.specs.Prelude.{Contains, All, ◌++◌}
 use Rattle.cn_table.specs.TypeTable.{TypeTable}
 use Rattle.cn_table.specs.declared.limits.TheConstants.{MOST_OPERATIONS}
+use Rattle.cn_stocks.specs.Stocks.{UpTo}
 use Rattle.cn_stocks.specs.Words.{IsKnown, times}
-use Rattle.cn_joins.specs.Evidence.{HasNoCopies}
+use Rattle.cn_telling.specs.Rows.{HasEarlier}
+use Rattle.cn_joins.specs.Evidence.{HasRowOfEarlier, MustBeConnected}
 use Rattle.cn_joins.specs.Joins.{Connect, Join, beginning}
 use Rattle.cn_stock_check.specs.declared.needs.Need.{Need}
 
@@ -72,15 +75,26 @@ HaveOneLabel counts labels =
 abbrev pub AreFrom : ℕ → ℕ → List ℕ → Type 0
 AreFrom first end list = (o : ℕ) → 1 ≤ times o list → (first ≤ o) × (o < end)
 
+-- a stock so far: it has the counted operations, none above the next one, and must be connected
+pub record IsBegun (t : TypeTable) (next : ℕ) (counts stock : List ℕ) : Type 0 where
+  pub counted : HasCounts counts stock
+  pub up_to : UpTo next stock
+  pub must : MustBeConnected t stock
+
+-- stocks that have the operation beside these need not be connected: it is a copy, or leads from each
+-- state to the same one as an earlier one of these
+abbrev pub IsLeftOut : TypeTable → List ℕ → ℕ → Type 0
+IsLeftOut t stock o = HasRowOfEarlier t o ⊎ HasEarlier t stock o
+
 -- the joins connect the stock with each list of so many operations from the first number on and below
--- the end that has no copies
+-- the end, if the two together must be connected
 abbrev pub ConnectWith : TypeTable → List Join → ℕ → List ℕ → ℕ → ℕ → ℕ → Type 0
 ConnectWith t joins start stock first end more =
-    (rest : List ℕ) → length rest ≡ more → AreFrom first end rest → HasNoCopies t rest
-    → Connect joins start (stock ++ rest)
+    (rest : List ℕ) → length rest ≡ more → AreFrom first end rest
+    → MustBeConnected t (stock ++ rest) → Connect joins start (stock ++ rest)
 
--- from the state the joins connect each stock of n operations that has no copies
+-- from the state the joins connect each stock of n operations that must be connected
 abbrev pub ConnectFrom : TypeTable → ℕ → List Join → ℕ → Type 0
 ConnectFrom t n joins start =
     (stock : List ℕ) → IsKnown (length t.operations) stock → length stock ≡ n
-    → HasNoCopies t stock → Connect joins start stock
+    → MustBeConnected t stock → Connect joins start stock

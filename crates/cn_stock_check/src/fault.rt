@@ -33,7 +33,7 @@ pub enum StockCheckFault {
     /// The upper bound is 1, and this operation notices itself.
     NoticesItself(u8),
     /// From this state the joins do not connect each stock of one operation more than the upper
-    /// bound that has no copies.
+    /// bound that must be connected.
     NotConnected(u8),
     /// There was not enough memory.
     OutOfMemory,

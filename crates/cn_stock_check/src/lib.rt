@@ -24,6 +24,7 @@ pub mod laws;
 mod least;
 mod needs;
 mod parts;
+mod rows;
 mod seen;
 mod sets;
 mod stocks;

@@ -1,21 +1,35 @@
-//! Whether joins connect all stocks of one number of operations without copies.
+//! Whether joins connect all stocks of one number of operations that must be connected.
 ghost use Rattle.std.specs.Prelude.{◌<◌, ◌≤◌, ◌+◌, ◌↔◌, ℕ, List, All, IfNone, IfOk, IfSome, IsTrue, length};
 ghost use Rattle.cn_table.specs.declared.limits.TheConstants.{MOST_OPERATIONS, MOST_STATES};
 ghost use Rattle.cn_joins.specs.Evidence.{ConnectAll};
 ghost use Rattle.cn_joins.specs.Joins.{IsJoin, Join};
 ghost use Rattle.cn_stock_check.specs.Faults.{IsLeftOpen};
-ghost use Rattle.cn_stock_check.specs.Needs.{AreKnown, AreNeedsOf, ConnectFrom, ConnectWith, HasCounts};
+ghost use Rattle.cn_stock_check.specs.Needs.{AreKnown, AreNeedsOf, ConnectFrom, ConnectWith, HasCounts, IsBegun, IsLeftOut};
 
 use crate::copies::is_copy;
 use crate::needs::{Counts, Need, met_by, needs_of};
 use crate::parts::are_connected;
+use crate::rows::has_earlier;
 use cn_joins::Join;
 use cn_table::laws::tables_are_valid;
 use cn_table::{MOST_OPERATIONS, Operation, Table};
 use std::alloc::{AllocError, Global};
 
-/// Whether each stock is connected that has so many more operations than the counts, none of them a
-/// copy, from the next one on. No need wants more of an earlier operation than is counted.
+/// Whether stocks with the operation beside the counted ones need not be connected: it is a copy, or
+/// leads from each state to the same one as an earlier one of these.
+fn is_left_out(table: &Table, counts: &Counts, operation: Operation) -> bool
+    requires { operation.0 < length table.now.operations }
+    ensures { (stock : List ℕ) → HasCounts counts.now stock
+        → IsTrue result ↔ IsLeftOut table.now stock operation.0 }
+{
+    if is_copy(table, operation) {
+        return true;
+    }
+    has_earlier(table, counts, operation)
+}
+
+/// Whether each stock is connected that must be, and has so many more operations than the counts, from
+/// the next one on. No need wants more of an earlier operation than is counted.
 fn all_connected(
     alloc: Global,
     table: &Table,
@@ -28,7 +42,7 @@ fn all_connected(
     requires next { next < length table.now.operations }
     requires room { All (λ count. count + more ≤ MOST_STATES + 1) counts }
     ensures { IfOk result (λ yes. (joins : List Join) (start : ℕ) (stock : List ℕ)
-        → AreNeedsOf joins start next stock needs.now → HasCounts counts stock
+        → AreNeedsOf joins start next stock needs.now → IsBegun table.now next counts stock
         → IsTrue yes
         ↔ ConnectWith table.now joins start stock next (length table.now.operations) more) }
 {
@@ -36,7 +50,7 @@ fn all_connected(
         return Ok(are_connected(needs, &counts));
     }
     tables_are_valid(table);
-    if !is_copy(table, Operation(next)) {
+    if !is_left_out(table, &counts, Operation(next)) {
         let mut with_next = counts;
         with_next[next as usize] += 1;
         let with_it = all_connected(alloc, table, needs, with_next, next, more - 1)?;
@@ -51,7 +65,7 @@ fn all_connected(
     all_connected(alloc, table, met.as_slice(), counts, next + 1, more)
 }
 
-/// Whether the joins connect each stock of n operations without copies from the state.
+/// Whether the joins connect each stock of n operations that must be connected, from the state.
 fn connect_from(
     alloc: Global,
     table: &Table,
@@ -68,8 +82,8 @@ fn connect_from(
     all_connected(alloc, table, needs.as_slice(), [0; MOST_OPERATIONS], 0, n)
 }
 
-/// The first state from which the joins do not connect each stock of n operations without copies, if
-/// there is one.
+/// The first state from which the joins do not connect each stock of n operations that must be
+/// connected, if there is one.
 pub(crate) fn first_open(
     alloc: Global,
     table: &Table,

@@ -54,6 +54,42 @@ next = [\"one\", \"one\"]
 "
 }
 
+/// The register with another response of the second write of zero, which is no copy then.
+fn named_register() -> &'static str {
+    "name = \"named_register\"
+states = [\"zero\", \"one\"]
+responses = [\"ok\", \"done\"]
+[[operation]]
+name = \"write0\"
+response = [\"ok\", \"ok\"]
+next = [\"zero\", \"zero\"]
+[[operation]]
+name = \"put0\"
+response = [\"done\", \"done\"]
+next = [\"zero\", \"zero\"]
+[[operation]]
+name = \"write1\"
+response = [\"ok\", \"ok\"]
+next = [\"one\", \"one\"]
+"
+}
+
+/// A bit that is tested and set under two names, with responses of their own: two processes.
+fn two_names() -> &'static str {
+    "name = \"two_names\"
+states = [\"zero\", \"one\"]
+responses = [\"zero\", \"one\", \"free\", \"taken\"]
+[[operation]]
+name = \"take\"
+response = [\"zero\", \"one\"]
+next = [\"one\", \"one\"]
+[[operation]]
+name = \"grab\"
+response = [\"free\", \"taken\"]
+next = [\"one\", \"one\"]
+"
+}
+
 /// A bit that keeps what is first written: every number of processes.
 fn sticky_bit() -> &'static str {
     "name = \"sticky_bit\"
@@ -170,6 +206,21 @@ fn copies_need_no_joins(rt: HostRuntime) -> Result<(), Fail> {
     let from_zero = ["1", "1", "null", "[[0,[0],0,[2,0],1]]"];
     let open = verdict(alloc, register, from_zero, "copied_register")?;
     assert!(rt; open == Err(StockCheckFault::NotConnected(1)));
+    Ok(())
+}
+
+#[test]
+fn operations_of_one_row_need_no_joins(rt: HostRuntime) -> Result<(), Fail> {
+    let alloc = rt.alloc();
+    let up_to_two = ["2", "2", "{\"witness\":[0,[0],[1]]}", "[]"];
+    assert!(rt; verdict(alloc, two_names(), up_to_two, "two_names")? == Ok(()));
+    let register = named_register();
+    let of_both = "[[0,[0],0,[2,0],1],[0,[1],0,[2,1],1],[1,[0,2],1,[2],0],[1,[1,2],1,[2],0]]";
+    let of_one = ["1", "1", "null", of_both];
+    assert!(rt; verdict(alloc, register, of_one, "named_register")? == Ok(()));
+    let of_copies = ["1", "1", "null", "[[0,[0],0,[2,0],1],[1,[0,2],1,[2],0]]"];
+    let open = verdict(alloc, register, of_copies, "named_register")?;
+    assert!(rt; open == Err(StockCheckFault::NotConnected(0)));
     Ok(())
 }
 

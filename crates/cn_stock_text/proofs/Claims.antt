@@ -1,5 +1,5 @@
 -- What a right certificate claims is of the type.
-use Rattle.std.proofs.Common.{◌≡◌, ℕ, ◌+◌, ◌≤◌, ◌↔◌, List, length, All, Option, Some, None, Bool, true, false, arith, subst, sym}
+use Rattle.std.proofs.Common.{ℕ, ◌+◌, ◌≤◌, ◌↔◌, List, length, All, Option, Some, None, Bool, true, false, arith, subst, sym}
 use Rattle.std.specs.Prelude.{IfSome, option_map}
 use Rattle.std.proofs.lemmas.List.Elements.{All-take}
 use Rattle.cn_table.specs.TypeTable.{TypeTable}

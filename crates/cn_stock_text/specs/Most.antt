@@ -7,10 +7,11 @@ use Rattle.cn_joins.specs.Joins.{Join}
 use Rattle.cn_stock_text.specs.Joins.{join_line}
 use Rattle.cn_stock_text.specs.declared.limits.TheConstants.{MOST_TOLD}
 
--- how many joins there are; only a type with one operation needs none
+-- how many joins there are; a type needs none only where its operations all lead from each state to the
+-- same one
 abbrev pub count_words : ℕ → List ℕ
 count_words count =
-    if count == 0 then codes "no join is needed, since no two operations of the type differ.\n"
+    if count == 0 then codes "no join is needed, since no two operations of the type lead from a state to different ones.\n"
     else (if count == 1
     then codes "1 join; in both of its runs some process gets the response behind the slash and reads the state left.\n"
     else decimal count
@@ -40,7 +41,7 @@ abbrev pub one_team_line : ℕ → ℕ → List ℕ
 one_team_line count n =
     if count == 0 then []
     else concat (codes "  From each state, the joins whose runs " ∷ decimal n
-    ∷ codes " processes can do put all of them into one team; operations that do the same count as one.\n" ∷ [])
+    ∷ codes " processes can do put all of them into one team; operations that lead from each state to the same one count as one.\n" ∷ [])
 
 -- that no protocol does it for n processes
 abbrev pub theorem_line : ℕ → List ℕ

@@ -15,7 +15,7 @@ fn push_count(text: &mut String, count: usize) -> Result<(), AllocError>
     ensures { OnOk result (string_bytes text.new ≡ string_bytes text.old ++ count_words count) }
 {
     match count {
-        0 => text.push_str("no join is needed, since no two operations of the type differ.\n"),
+        0 => text.push_str("no join is needed, since no two operations of the type lead from a state to different ones.\n"),
         1 => text.push_str(
             "1 join; in both of its runs some process gets the response behind the slash and reads the state left.\n",
         ),
@@ -80,7 +80,7 @@ fn push_one_team(text: &mut String, count: usize, n: u8) -> Result<(), AllocErro
     }
     write!(
         text,
-        "  From each state, the joins whose runs {n} processes can do put all of them into one team; operations that do the same count as one.\n"
+        "  From each state, the joins whose runs {n} processes can do put all of them into one team; operations that lead from each state to the same one count as one.\n"
     )
 }
 

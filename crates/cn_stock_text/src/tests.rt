@@ -111,7 +111,7 @@ Why not 3: 4 joins; in both runs of each some process gets the response behind t
   from one: swap0 swap1 swap0/one and swap1 swap0/one both leave zero: swap0 and swap1 are in one team
   from one: swap0 swap1/zero and swap1 swap0 swap1/zero both leave one: swap0 and swap1 are in one team
   Processes with one operation are in one team: a third one sees the same, whichever of them is first.
-  From each state, the joins whose runs 3 processes can do put all of them into one team; operations that do the same count as one.
+  From each state, the joins whose runs 3 processes can do put all of them into one team; operations that lead from each state to the same one count as one.
 No protocol at all does it for 3: this is proved (docs/PROVED.md).
 ";
     assert!(rt; tells(rt.alloc(), binary_swap(), of_two, false, text)?);
@@ -151,7 +151,7 @@ Why not 2: 2 joins; in both runs of each some process gets the response behind t
   from zero: write0/ok and write1 write0/ok both leave zero: write0 and write1 are in one team
   from one: write0 write1/ok and write1/ok both leave one: write0 and write1 are in one team
   Two processes with one operation cannot tell either: done twice in a row, it gets the same response both times.
-  From each state, the joins whose runs 2 processes can do put all of them into one team; operations that do the same count as one.
+  From each state, the joins whose runs 2 processes can do put all of them into one team; operations that lead from each state to the same one count as one.
 No protocol at all does it for 2: this is proved (docs/PROVED.md).
 ";
     assert!(rt; tells(rt.alloc(), binary_register(), of_one, true, text)?);
@@ -184,7 +184,7 @@ Why not 2: 14 joins; in both runs of each some process gets the response behind 
   from zero: write0/ok and write1 write0/ok both leave zero: write0 and write1 are in one team
   and 2 more (--all tells them)
   Two processes with one operation cannot tell either: done twice in a row, it gets the same response both times.
-  From each state, the joins whose runs 2 processes can do put all of them into one team; operations that do the same count as one.
+  From each state, the joins whose runs 2 processes can do put all of them into one team; operations that lead from each state to the same one count as one.
 No protocol at all does it for 2: this is proved (docs/PROVED.md).
 ";
     assert!(rt; tells(rt.alloc(), binary_register(), of_one, false, text)?);
@@ -198,7 +198,7 @@ fn bounds_that_differ(rt: HostRuntime) -> Result<(), Fail> {
 
 One process alone agrees with itself, so the number is at least 1.
 
-Why not 3: no join is needed, since no two operations of the type differ.
+Why not 3: no join is needed, since no two operations of the type lead from a state to different ones.
   Processes with one operation are in one team: a third one sees the same, whichever of them is first.
 No protocol at all does it for 3: this is proved (docs/PROVED.md).
 ";

@@ -9,5 +9,5 @@ invariant-loop-place l = record {
   more : AreMore l.table l.fn.start l.fn.joins.items l.joins.items;
   are : All (IsJoinFrom l.table l.fn.start) l.joins.items;
   count : length l.all.items ≡ l.place;
-  marked : AreMarkedFirst l.fn.start l.joins.items l.search.stocks.list.items l.all.items;
+  marked : AreMarkedFirst l.table l.fn.start l.joins.items l.search.stocks.list.items l.all.items;
 }

@@ -14,9 +14,9 @@ none_yet t start joins e = subst (All (IsJoinFrom t start)) (sym e) (All-nil (Is
 
 starts_next : (t : TypeTable) (n start : ℕ) (xs ys : List Join) → ((s : ℕ) → s < start → ConnectFrom t n s xs) → ConnectFrom t n start ys
     → (s : ℕ) → s < start + 1 → ConnectFrom t n s (xs ++ ys)
-starts_next t n start xs ys before here s l stock known long = elim (below_or_last s start l) [
-  | inl u ↦ more_connect xs ys s stock (before s u stock known long)
-  | inr same ↦ more_connect_behind xs ys s stock (subst (λ (k : ℕ). ConnectFrom t n k ys) (sym same) here stock known long)
+starts_next t n start xs ys before here s l stock known long differ = elim (below_or_last s start l) [
+  | inl u ↦ more_connect xs ys s stock (before s u stock known long differ)
+  | inr same ↦ more_connect_behind xs ys s stock (subst (λ (k : ℕ). ConnectFrom t n k ys) (sym same) here stock known long differ)
 ]
 
 pub loop-start-init : goal.loop-start-init
@@ -47,4 +47,4 @@ loop-start-preserved g c =
 pub returns : goal.returns
 returns g c =
     let v = c.loop-start.invariant in
-    (v.are, λ start known stock in_table long none. v.connect start (omega (arith, known, c.loop-start-test.false, c.states-start-end.ensures.number)) stock in_table long)
+    (v.are, λ start known stock in_table long must. v.connect start (omega (arith, known, c.loop-start-test.false, c.states-start-end.ensures.number)) stock in_table long must.rows_differ)

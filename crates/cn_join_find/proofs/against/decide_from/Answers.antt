@@ -15,7 +15,7 @@ loop-size-init g c = record {
   search_is = c.in_ok-search.ensures;
   more = none_more c.args.table.now c.args.start c.args.joins.now.items;
   are = c.requires.joins;
-  marked = record { count = omega (arith, c.in_ok-marks.ensures.count, c.len.ensures, c.in_ok-search.search.stocks.list.ok.0); connect = λ i s at mark. absurd (c.in_ok-marks.ensures.none i mark) };
+  marked = record { count = omega (arith, c.in_ok-marks.ensures.count, c.len.ensures, c.in_ok-search.search.stocks.list.ok.0); connect = λ i s at mark differ. absurd (c.in_ok-marks.ensures.none i mark) };
 }
 
 -- the search at the next number of operations
@@ -28,8 +28,8 @@ all_marks-requires-clause-search g c = next_size c.args.table.now c.loop-size.si
 pub all_marks-requires-clause-marks : goal.all_marks-requires-clause-marks
 all_marks-requires-clause-marks g c =
     let v = c.loop-size.invariant in
-    subst (λ (list : List Stock). AreMarked c.args.start c.loop-size.joins.items list c.as_slice.result.now) (sym c.in_ok-search-2.ensures.below)
-    (subst (λ (marks : List Bool). AreMarked c.args.start c.loop-size.joins.items c.loop-size.search.stocks.list.items marks) (sym c.as_slice.ensures.value) v.marked)
+    subst (λ (list : List Stock). AreMarked c.args.table.now c.args.start c.loop-size.joins.items list c.as_slice.result.now) (sym c.in_ok-search-2.ensures.below)
+    (subst (λ (marks : List Bool). AreMarked c.args.table.now c.args.start c.loop-size.joins.items c.loop-size.search.stocks.list.items marks) (sym c.as_slice.ensures.value) v.marked)
 
 pub loop-size-preserved : goal.loop-size-preserved
 loop-size-preserved g c =
@@ -59,7 +59,7 @@ returns-then-are_all_connected g c =
     let done = c.are_all_connected.ensures c.if-are_all_connected.true in
     let none = subst (λ (marks : List Bool). (i : ℕ) → slice_get marks i ≢ Some true) c.as_slice-in-loop-size.ensures.value done.1 in
     let is = next_size t size search (omega (arith, c.loop-size.auto.size)) c.in_ok-search-2.ensures.search in
-    let here = connect_from t size search is start new (each_connected start new search.stocks.list.items c.in_ok-marks-2.marks.items told.marks none) in
+    let here = connect_from t size search is start new (each_connected t start new search.stocks.list.items c.in_ok-marks-2.marks.items told.marks none) in
     record {
       more = more_trans t start c.args.joins.now.items old new v.more told.more;
       split = connect_larger t start new size c.args.n done.0 (omega (arith, c.loop-size-test.true)) here;
@@ -76,8 +76,8 @@ first_split-requires-clause-search g c = next_size c.args.table.now c.args.n c.i
 pub first_split-requires-clause-marks : goal.first_split-requires-clause-marks
 first_split-requires-clause-marks g c =
     let v = c.loop-size.invariant in
-    subst (λ (list : List Stock). AreMarked c.args.start c.loop-size.joins.items list c.as_slice-2.result.now) (sym c.in_ok-search-3.ensures.below)
-    (subst (λ (marks : List Bool). AreMarked c.args.start c.loop-size.joins.items c.loop-size.search.stocks.list.items marks) (sym c.as_slice-2.ensures.value) v.marked)
+    subst (λ (list : List Stock). AreMarked c.args.table.now c.args.start c.loop-size.joins.items list c.as_slice-2.result.now) (sym c.in_ok-search-3.ensures.below)
+    (subst (λ (marks : List Bool). AreMarked c.args.table.now c.args.start c.loop-size.joins.items c.loop-size.search.stocks.list.items marks) (sym c.as_slice-2.ensures.value) v.marked)
 
 pub returns : goal.returns
 returns g c =

@@ -10,5 +10,5 @@ invariant-loop-size g l = record {
   search_is : IsSearch l.table (l.size - 1) l.search;
   more : AreMore l.table l.fn.start l.fn.joins.items l.joins.items;
   are : All (IsJoinFrom l.table l.fn.start) l.joins.items;
-  marked : AreMarked l.fn.start l.joins.items l.search.stocks.list.items l.marks.items;
+  marked : AreMarked l.table l.fn.start l.joins.items l.search.stocks.list.items l.marks.items;
 }

@@ -1,4 +1,4 @@
-use Rattle.std.proofs.Common.{◌≡◌, ℕ, List, Some, arith, length, refl, subst}
+use Rattle.std.proofs.Common.{◌≡◌, ℕ, List, Some, arith, subst}
 use Rattle.std.specs.Prelude.{slice_get}
 use Rattle.cn_stocks.specs.declared.stocks.Stock.{Stock}
 use Rattle.cn_stocks.proofs.StockLemmas.{read_stock}

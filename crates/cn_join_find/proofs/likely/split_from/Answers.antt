@@ -1,6 +1,5 @@
-use Rattle.std.proofs.Common.{List, ℕ, ap, arith, length, subst, sym}
+use Rattle.std.proofs.Common.{ℕ, ap, arith, length, subst, sym}
 use Rattle.cn_stocks.specs.Words.{IsKnown}
-use Rattle.cn_join_find.specs.Crossing.{IsPart}
 use Rattle.cn_join_find.specs.Marks.{IsWitnessFor}
 use Rattle.cn_join_find.proofs.likely.split_from.Goals as goal
 

@@ -5,12 +5,12 @@ use Rattle.cn_join_find.proofs.ReachLemmas.{none_more}
 use Rattle.cn_join_find.proofs.marks.is_left.Goals as goal
 
 pub is_connected-requires : goal.is_connected-requires
-is_connected-requires c = (length c.args.table.now.operations, (c.args.start, (c.args.joins.now.items, c.requires.above)))
+is_connected-requires c = (c.args.table.now, (c.args.start, (c.args.joins.now.items, c.requires.above)))
 
 pub returns-then-is_connected : goal.returns-then-is_connected
 returns-then-is_connected c = record {
   more = none_more c.args.table.now c.args.start c.args.joins.now.items;
-  connected = λ e. c.is_connected.ensures (length c.args.table.now.operations) c.args.start c.args.joins.now.items c.requires.above c.if-is_connected.true;
+  connected = λ e. c.is_connected.ensures c.args.table.now c.args.start c.args.joins.now.items c.requires.above c.if-is_connected.true;
 }
 
 pub returns-then-tells : goal.returns-then-tells

@@ -7,12 +7,12 @@ use Rattle.cn_join_find.proofs.ReachLemmas.{none_more}
 use Rattle.cn_join_find.proofs.marks.part_of.Goals as goal
 
 pub is_connected-requires : goal.is_connected-requires
-is_connected-requires c = (length c.args.table.now.operations, (c.args.start, (c.args.joins.now.items, c.requires.above)))
+is_connected-requires c = (c.args.table.now, (c.args.start, (c.args.joins.now.items, c.requires.above)))
 
 pub returns-then-is_connected : goal.returns-then-is_connected
 returns-then-is_connected c = record {
   more = none_more c.args.table.now c.args.start c.args.joins.now.items;
-  part = c.is_connected.ensures (length c.args.table.now.operations) c.args.start c.args.joins.now.items c.requires.above c.if-is_connected.true;
+  part = c.is_connected.ensures c.args.table.now c.args.start c.args.joins.now.items c.requires.above c.if-is_connected.true;
 }
 
 pub connect-requires-clause-known : goal.connect-requires-clause-known

@@ -11,5 +11,5 @@ pub loop-start-preserved : goal.loop-start-preserved
 loop-start-preserved c = below_more _ _ c.loop-start.invariant (c.in_ok-all.ensures.0 c.if-not-all.false)
 
 pub returns-clause-none : goal.returns-clause-none
-returns-clause-none c = λ start l stock known long none.
-    c.loop-start.invariant start (omega (arith, l, c.loop-start-test.false, c.states-start-end.ensures.number)) stock known long none
+returns-clause-none c = λ start l stock known long must.
+    c.loop-start.invariant start (omega (arith, l, c.loop-start-test.false, c.states-start-end.ensures.number)) stock known long must

@@ -1,4 +1,4 @@
-use Rattle.std.proofs.Common.{List, All}
+use Rattle.std.proofs.Common.{All}
 use Rattle.cn_joins.specs.Joins.{IsJoin}
 use Rattle.cn_stock_text.proofs.Claims.{bound_few, claim_known, joins_known, some_viewed}
 use Rattle.cn_stock_text.proofs.explanation.push_stock_explanation.Goals as goal

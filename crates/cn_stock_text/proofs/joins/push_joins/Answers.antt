@@ -1,4 +1,3 @@
-use Rattle.std.proofs.Common.{string_bytes}
 use Rattle.cn_stock_text.specs.Joins.{join_line}
 use Rattle.cn_stock_text.proofs.Behind.{flat_more}
 use Rattle.cn_stock_text.proofs.joins.push_joins.Goals as goal
