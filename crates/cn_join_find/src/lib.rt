@@ -22,7 +22,6 @@ mod meeting;
 mod notices;
 mod reach;
 mod renaming;
-mod rows;
 mod split;
 mod steps;
 #[cfg(test)]

@@ -9,26 +9,17 @@ use Rattle.cn_stocks.proofs.SplitLemmas.{joined_sym}
 use Rattle.cn_stocks.proofs.StockLemmas.{before_or_behind}
 use Rattle.cn_stocks.proofs.Times.{one, one_else, one_of, same_or, times_cons, times_none}
 use Rattle.cn_telling.specs.Rows.{HaveOneRow, RowsDiffer, in_place, next_row, replaced}
-use Rattle.cn_telling.proofs.RowLemmas.{at_b, at_else, same_next, same_state, splits_by_rows, stands_mapped, times_a, times_b, times_else}
+use Rattle.cn_telling.proofs.RowLemmas.{at_b, at_else, row_or, same_next, same_state, splits_by_rows, stands_mapped, times_a, times_b, times_else}
 use Rattle.cn_joins.specs.Evidence.{HasRowOfEarlier, HaveSameRows, MustBeConnected, SomeNotices, row_of}
 use Rattle.cn_joins.proofs.Finite.{OrNot, both, some_below}
 use Rattle.cn_joins.proofs.Soundness.{equal_from}
 
 -- ---- copies or not
 
-lists_or_not : (xs ys : List ℕ) → OrNot (xs ≡ ys)
-lists_or_not [] [] = inl refl
-lists_or_not [] (y ∷ ys) = inr (λ e. absurd (cc e))
-lists_or_not (x ∷ xs) [] = inr (λ e. absurd (cc e))
-lists_or_not (x ∷ xs) (y ∷ ys) = elim (same_or x y) [
-  | inr n ↦ inr (λ e. n (let head : x ≡ y = cc in head))
-  | inl h ↦ elim (lists_or_not xs ys) [ inr n ↦ inr (λ e. n (let tail : xs ≡ ys = cc in tail)) | inl g ↦ inl (rw (h, g) refl) ]
-]
-
 earlier_or_not : (t : TypeTable) (o : ℕ) → OrNot (HasRowOfEarlier t o)
 earlier_or_not t o =
     some_below (λ p. HaveSameRows t p o) o
-    (λ p l. both _ _ (lists_or_not (row_of t p).response (row_of t o).response) (lists_or_not (row_of t p).next (row_of t o).next))
+    (λ p l. both _ _ (row_or (row_of t p).response (row_of t o).response) (row_or (row_of t p).next (row_of t o).next))
 
 -- ---- two operations of one row in a stock of two
 

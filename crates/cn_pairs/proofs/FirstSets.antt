@@ -13,7 +13,7 @@ use Rattle.cn_search.specs.declared.exact.ConsensusNumber.TheVariants.{Finite, I
 use Rattle.std.specs.Prelude.{◌==◌, Vec, vec_len}
 use Rattle.std.specs.declared.alloc.Global.{Global}
 use Rattle.cn_table.specs.declared.elements.Operation.{Operation}
-use Rattle.cn_pairs.specs.Firsts.{AreFirst}
+use Rattle.cn_pairs.specs.Firsts.{AreFirstWith}
 use Rattle.cn_pairs.specs.SetNumbers.{AreSetNumbers, IsSetNumber, numbers, set_lists, set_of, sets_of_size}
 use Rattle.cn_pairs.specs.Smallest.{AreSmallest, HasNumberWith, NoneHas, same_number}
 use Rattle.cn_pairs.specs.declared.restricted.SetNumber.{SetNumber}
@@ -112,14 +112,14 @@ module _ (t : TypeTable) (set : List ℕ) (own number : ConsensusNumber) (is : H
 
 -- by the numbers of all of them
 pub first_of_size : (t : TypeTable) (size : ℕ) (number : ConsensusNumber) (all : List SetNumber) (found : List (List ℕ)) → AreSetNumbers t size all
-    → found ≡ map set_of (take 12 (with_number number all)) → AreFirst (HasNumberWith t number) 12 (sets_of_size t size) found
+    → found ≡ map set_of (take 12 (with_number number all)) → AreFirstWith (HasNumberWith t number) 12 (sets_of_size t size) found
 first_of_size t size number all found are e =
     let tell : AllByRecursion (Tells set_of (HasNumberWith t number) (λ s. same_number s.number number)) all =
     each_from (Tells set_of (HasNumberWith t number) (λ s. same_number s.number number)) all (λ s i.
     let own : HasNumber (with_operations t (set_of s)) s.number = All-contains (IsSetNumber t) all s are.numbers (Contains-from_IsIn s all i) in
     (has_same t (set_of s) s.number number own, has_other t (set_of s) s.number number own)) in
-    subst (λ (sets : List (List ℕ)). AreFirst (HasNumberWith t number) 12 sets found) are.listed
-    (subst (AreFirst (HasNumberWith t number) 12 (map set_of all)) (sym e)
+    subst (λ (sets : List (List ℕ)). AreFirstWith (HasNumberWith t number) 12 sets found) are.listed
+    (subst (AreFirstWith (HasNumberWith t number) 12 (map set_of all)) (sym e)
     (first_by_test set_of (HasNumberWith t number) (λ s. same_number s.number number) 12 all tell))
 
 -- there is one list of them
@@ -154,7 +154,7 @@ none_by_numbers t size number all are = (
     by_test s false e none is = e
 
 module _ (t : TypeTable) (size : ℕ) (number : ConsensusNumber) (found : Vec (Vec Operation Global) Global)
-    (first : AreFirst (HasNumberWith t number) 12 (sets_of_size t size) (set_lists found)) where
+    (first : AreFirstWith (HasNumberWith t number) 12 (sets_of_size t size) (set_lists found)) where
   -- none has the number if none is found
   pub none_of_size : found.items ≡ [] → NoneHas t size number
   none_of_size empty =
@@ -192,26 +192,26 @@ something_in found e = λ empty. true≢false (sym (eq-eqb (vec_len found) 0 (om
 -- ---- the sets one after the other
 
 module _ (t : TypeTable) (number : ConsensusNumber) (sets : List (Vec Operation Global)) (i : ℕ) (found : List (List ℕ))
-    (first : AreFirst (HasNumberWith t number) 12 (map (λ set. numbers set.items) (take i sets)) found) where
+    (first : AreFirstWith (HasNumberWith t number) 12 (map (λ set. numbers set.items) (take i sets)) found) where
   module _ (set : Vec Operation Global) (l : i < length sets) (is : set ≡ get_or sets i set) where
     -- the next one has the number
     pub next_has : HasNumberWith t number (numbers set.items) → length found < 12
-        → AreFirst (HasNumberWith t number) 12 (map (λ set. numbers set.items) (take (i + 1) sets)) (found ++ numbers set.items ∷ [])
+        → AreFirstWith (HasNumberWith t number) 12 (map (λ set. numbers set.items) (take (i + 1) sets)) (found ++ numbers set.items ∷ [])
     next_has has room =
-        subst (λ (ls : List (List ℕ)). AreFirst (HasNumberWith t number) 12 ls (found ++ numbers set.items ∷ [])) (sym (lists_more sets i set l is))
+        subst (λ (ls : List (List ℕ)). AreFirstWith (HasNumberWith t number) 12 ls (found ++ numbers set.items ∷ [])) (sym (lists_more sets i set l is))
         (first_more (HasNumberWith t number) 12 (map (λ (set : Vec Operation Global). numbers set.items) (take i sets)) found (numbers set.items) first has room)
 
     -- or it has another
     pub next_other : (HasNumberWith t number (numbers set.items) → ⊥)
-        → AreFirst (HasNumberWith t number) 12 (map (λ set. numbers set.items) (take (i + 1) sets)) found
+        → AreFirstWith (HasNumberWith t number) 12 (map (λ set. numbers set.items) (take (i + 1) sets)) found
     next_other other =
-        subst (λ (ls : List (List ℕ)). AreFirst (HasNumberWith t number) 12 ls found) (sym (lists_more sets i set l is))
+        subst (λ (ls : List (List ℕ)). AreFirstWith (HasNumberWith t number) 12 ls found) (sym (lists_more sets i set l is))
         (first_other (HasNumberWith t number) 12 (map (λ (set : Vec Operation Global). numbers set.items) (take i sets)) found (numbers set.items) first other)
 
   -- there is no room for more
-  pub no_more_room : 12 ≤ length found → AreFirst (HasNumberWith t number) 12 (map (λ set. numbers set.items) sets) found
+  pub no_more_room : 12 ≤ length found → AreFirstWith (HasNumberWith t number) 12 (map (λ set. numbers set.items) sets) found
   no_more_room full =
       let list : Vec Operation Global → List ℕ = λ set. numbers set.items in
-      subst (λ (ls : List (List ℕ)). AreFirst (HasNumberWith t number) 12 ls found)
+      subst (λ (ls : List (List ℕ)). AreFirstWith (HasNumberWith t number) 12 ls found)
       (sym (map-append list (take i sets) (drop i sets)) ∙ ap (map list) (take-append-drop i sets))
       (first_full (HasNumberWith t number) 12 (map list (take i sets)) found (map list (drop i sets)) first full)

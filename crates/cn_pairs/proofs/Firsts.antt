@@ -2,17 +2,17 @@
 use Rattle.std.proofs.Common.{◌≡◌, ℕ, zero, suc, ◌<◌, ◌≤◌, inl, inr, List, [], ◌∷◌, ◌++◌, length, map, take, Bool, true, false, cond, refl, sym, ap, ◌∙◌, subst, arith, All}
 use Rattle.std.specs.List.{AllByRecursion, filter}
 use Rattle.std.proofs.lemmas.List.Elements.{All-cons, All-from_recursion, All-head, All-nil, All-tail}
-use Rattle.cn_pairs.specs.Firsts.{AreFirst}
+use Rattle.cn_pairs.specs.Firsts.{AreFirstWith}
 
 module _ {X : Type 0} (P : X → Type 0) where
   -- there are none of an empty list
-  pub of_nothing : (most : ℕ) → AreFirst P most [] []
+  pub of_nothing : (most : ℕ) → AreFirstWith P most [] []
   of_nothing zero = refl
   of_nothing (suc most) = refl
 
   -- one element more, for which P holds
-  pub first_more : (most : ℕ) (xs found : List X) (x : X) → AreFirst P most xs found → P x → length found < most
-      → AreFirst P most (xs ++ x ∷ []) (found ++ x ∷ [])
+  pub first_more : (most : ℕ) (xs found : List X) (x : X) → AreFirstWith P most xs found → P x → length found < most
+      → AreFirstWith P most (xs ++ x ∷ []) (found ++ x ∷ [])
   first_more zero xs found x h p l = absurd (omega (arith, l))
   first_more (suc most) [] found x h p l = inl (p, [], ap (λ (ys : List X). ys ++ x ∷ []) h, of_nothing most)
   first_more (suc most) (y ∷ ys) found x h p l = elim h [
@@ -21,7 +21,7 @@ module _ {X : Type 0} (P : X → Type 0) where
   ]
 
   -- or for which it does not hold
-  pub first_other : (most : ℕ) (xs found : List X) (x : X) → AreFirst P most xs found → (P x → ⊥) → AreFirst P most (xs ++ x ∷ []) found
+  pub first_other : (most : ℕ) (xs found : List X) (x : X) → AreFirstWith P most xs found → (P x → ⊥) → AreFirstWith P most (xs ++ x ∷ []) found
   first_other zero xs found x h other = h
   first_other (suc most) [] found x h other = inr (other, h)
   first_other (suc most) (y ∷ ys) found x h other = elim h [
@@ -30,7 +30,7 @@ module _ {X : Type 0} (P : X → Type 0) where
   ]
 
   -- once there are as many as wanted, the rest tells nothing
-  pub first_full : (most : ℕ) (xs found rest : List X) → AreFirst P most xs found → most ≤ length found → AreFirst P most (xs ++ rest) found
+  pub first_full : (most : ℕ) (xs found rest : List X) → AreFirstWith P most xs found → most ≤ length found → AreFirstWith P most (xs ++ rest) found
   first_full zero xs found rest h l = h
   first_full (suc most) [] found rest h l = absurd (omega (arith, l, ap length h))
   first_full (suc most) (y ∷ ys) found rest h l = elim h [
@@ -38,7 +38,7 @@ module _ {X : Type 0} (P : X → Type 0) where
     | inr u ↦ inr (u.0, first_full (suc most) ys found rest u.1 l)
   ]
 
-  none_by_recursion : (most : ℕ) (xs found : List X) → AreFirst P (suc most) xs found → found ≡ [] → AllByRecursion (λ x. P x → ⊥) xs
+  none_by_recursion : (most : ℕ) (xs found : List X) → AreFirstWith P (suc most) xs found → found ≡ [] → AllByRecursion (λ x. P x → ⊥) xs
   none_by_recursion most [] found h e = tt
   none_by_recursion most (x ∷ xs) found h e = elim h [
     | inl u ↦ absurd (cc (e, u.2))
@@ -46,11 +46,11 @@ module _ {X : Type 0} (P : X → Type 0) where
   ]
 
   -- if there are none, P holds for no element
-  pub none_first : (most : ℕ) (xs found : List X) → AreFirst P (suc most) xs found → found ≡ [] → All (λ x. P x → ⊥) xs
+  pub none_first : (most : ℕ) (xs found : List X) → AreFirstWith P (suc most) xs found → found ≡ [] → All (λ x. P x → ⊥) xs
   none_first most xs found h e = All-from_recursion (λ x. P x → ⊥) xs (none_by_recursion most xs found h e)
 
   -- what holds of all elements holds of these
-  pub all_first : (Q : X → Type 0) (most : ℕ) (xs found : List X) → AreFirst P most xs found → All Q xs → All Q found
+  pub all_first : (Q : X → Type 0) (most : ℕ) (xs found : List X) → AreFirstWith P most xs found → All Q xs → All Q found
   all_first Q zero xs found h all = subst (All Q) (sym h) (All-nil Q)
   all_first Q (suc most) [] found h all = subst (All Q) (sym h) (All-nil Q)
   all_first Q (suc most) (x ∷ xs) found h all = elim h [
@@ -59,7 +59,7 @@ module _ {X : Type 0} (P : X → Type 0) where
   ]
 
   -- there is one such list
-  pub one_first : (most : ℕ) (xs a b : List X) → AreFirst P most xs a → AreFirst P most xs b → a ≡ b
+  pub one_first : (most : ℕ) (xs a b : List X) → AreFirstWith P most xs a → AreFirstWith P most xs b → a ≡ b
   one_first zero xs a b h k = h ∙ sym k
   one_first (suc most) [] a b h k = h ∙ sym k
   one_first (suc most) (x ∷ xs) a b h k = elim h [
@@ -82,13 +82,13 @@ module _ {S X : Type 0} (f : S → X) (P : X → Type 0) (test : S → Bool) whe
   take_zero [] = refl
   take_zero (x ∷ xs) = refl
 
-  pub first_by_test : (most : ℕ) (all : List S) → AllByRecursion Tells all → AreFirst P most (map f all) (map f (take most (filter test all)))
+  pub first_by_test : (most : ℕ) (all : List S) → AllByRecursion Tells all → AreFirstWith P most (map f all) (map f (take most (filter test all)))
   first_by_test zero all h = take_zero (filter test all)
   first_by_test (suc most) [] h = refl
   first_by_test (suc most) (s ∷ all) h = by_case (test s) refl (first_by_test most all h.1) (first_by_test (suc most) all h.1)
     where
-      by_case : (b : Bool) → test s ≡ b → AreFirst P most (map f all) (map f (take most (filter test all)))
-          → AreFirst P (suc most) (map f all) (map f (take (suc most) (filter test all)))
-          → AreFirst P (suc most) (f s ∷ map f all) (map f (take (suc most) (cond b (s ∷ filter test all) (filter test all))))
+      by_case : (b : Bool) → test s ≡ b → AreFirstWith P most (map f all) (map f (take most (filter test all)))
+          → AreFirstWith P (suc most) (map f all) (map f (take (suc most) (filter test all)))
+          → AreFirstWith P (suc most) (f s ∷ map f all) (map f (take (suc most) (cond b (s ∷ filter test all) (filter test all))))
       by_case true e fewer same = inl (h.0.0 e, map f (take most (filter test all)), refl, fewer)
       by_case false e fewer same = inr (h.0.1 e, same)

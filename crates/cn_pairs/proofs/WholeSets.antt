@@ -6,7 +6,7 @@ use Rattle.cn_table.specs.Restriction.{with_operations}
 use Rattle.cn_table.specs.TypeTable.{Row, TypeTable, no_row}
 use Rattle.cn_search.specs.Numbers.{HasNumber}
 use Rattle.cn_search.specs.declared.exact.ConsensusNumber.{ConsensusNumber}
-use Rattle.cn_pairs.specs.Firsts.{AreFirst}
+use Rattle.cn_pairs.specs.Firsts.{AreFirstWith}
 use Rattle.cn_pairs.specs.SetNumbers.{sets_of_size}
 use Rattle.cn_pairs.specs.Smallest.{AreSmallest, HasNumberWith, NoneHas}
 use Rattle.cn_pairs.specs.Sublists.{sublists}
@@ -33,10 +33,10 @@ pub whole_has : (t : TypeTable) (number : ConsensusNumber) → HasNumber t numbe
 whole_has t number has = subst (λ (u : TypeTable). HasNumber u number) (sym (with_all t)) has
 
 whole_first : (t : TypeTable) (number : ConsensusNumber) → HasNumber t number
-    → AreFirst (HasNumberWith t number) 12 (sets_of_size t (length t.operations)) (range_with_len 0 (length t.operations) ∷ [])
+    → AreFirstWith (HasNumberWith t number) 12 (sets_of_size t (length t.operations)) (range_with_len 0 (length t.operations) ∷ [])
 whole_first t number has =
     let all : List ℕ = range_with_len 0 (length t.operations) in
-    subst (λ (sets : List (List ℕ)). AreFirst (HasNumberWith t number) 12 sets (all ∷ [])) (sym (itself 0 (length t.operations)))
+    subst (λ (sets : List (List ℕ)). AreFirstWith (HasNumberWith t number) 12 sets (all ∷ [])) (sym (itself 0 (length t.operations)))
     (inl (whole_has t number has, [], refl, of_nothing (HasNumberWith t number) 11))
 
 -- if no smaller set has it, it is the smallest
@@ -47,7 +47,7 @@ whole_smallest t number size sets has same some e none =
     record {
       size = length t.operations;
       some = omega (arith, some, same);
-      first = subst (AreFirst (HasNumberWith t number) 12 (sets_of_size t (length t.operations))) (sym own) (whole_first t number has);
+      first = subst (AreFirstWith (HasNumberWith t number) 12 (sets_of_size t (length t.operations))) (sym own) (whole_first t number has);
       found = λ empty. absurd (cc (own, empty));
       none_smaller = none;
     }

@@ -5,7 +5,7 @@ use Rattle.cn_table.specs.TypeTable.{TypeTable}
 use Rattle.cn_search.specs.Numbers.{HasNumber}
 use Rattle.cn_search.specs.declared.exact.ConsensusNumber.{ConsensusNumber}
 use Rattle.cn_search.specs.declared.exact.ConsensusNumber.TheVariants.{Finite, Infinite}
-use Rattle.cn_pairs.specs.Firsts.{AreFirst}
+use Rattle.cn_pairs.specs.Firsts.{AreFirstWith}
 use Rattle.cn_pairs.specs.SetNumbers.{set_of, sets_of_size}
 use Rattle.cn_pairs.specs.declared.restricted.SetNumber.{SetNumber}
 use Rattle.cn_pairs.specs.declared.smallest.TheConstants.{MOST_SETS}
@@ -37,6 +37,6 @@ NoneHas t size number = All (λ set. ¬ HasNumberWith t number set) (sets_of_siz
 pub record AreSmallest (t : TypeTable) (n : ConsensusNumber) (sets : List (List ℕ)) : Type 0 where
   pub size : ℕ
   pub some : 1 ≤ size
-  pub first : AreFirst (HasNumberWith t n) MOST_SETS (sets_of_size t size) sets
+  pub first : AreFirstWith (HasNumberWith t n) MOST_SETS (sets_of_size t size) sets
   pub found : sets ≢ []
   pub none_smaller : (k : ℕ) → 1 ≤ k → k < size → NoneHas t k n

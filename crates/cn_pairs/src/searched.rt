@@ -3,7 +3,7 @@ ghost use Rattle.std.specs.Prelude.{◌≤◌, ◌↔◌, ◌-◌, All, Any, Con
 ghost use Rattle.cn_table.specs.Restriction.{AreOperations};
 ghost use Rattle.cn_search.specs.Numbers.{HasNumber};
 ghost use Rattle.cn_search.specs.declared.exact.ConsensusNumber.{ConsensusNumber};
-ghost use Rattle.cn_pairs.specs.Firsts.{AreFirst};
+ghost use Rattle.cn_pairs.specs.Firsts.{AreFirstWith};
 ghost use Rattle.cn_pairs.specs.SetNumbers.{AreSetNumbers, numbers, set_lists, sets_of_size};
 ghost use Rattle.cn_pairs.specs.Smallest.{HasNumberWith, IsWithinOther};
 ghost use Rattle.cn_pairs.specs.declared.smallest.TheConstants.{MOST_SETS};
@@ -91,7 +91,7 @@ fn first_of<T: Threads + Sync>(
     requires some { 2 ≤ length table.now.operations }
     requires known { AreSetNumbers table.now (length table.now.operations - 1) known.now }
     requires sets { All (λ set. AreOperations table.now (numbers set.items)) sets.now }
-    ensures { IfOk result (λ found. AreFirst (HasNumberWith table.now number) MOST_SETS
+    ensures { IfOk result (λ found. AreFirstWith (HasNumberWith table.now number) MOST_SETS
         (map (λ set. numbers set.items) sets.now) (set_lists found)) }
 {
     let mut found = Vec::new(alloc);
@@ -121,7 +121,7 @@ pub(crate) fn first_sets<T: Threads + Sync>(
     requires some { 2 ≤ length table.now.operations }
     requires known { AreSetNumbers table.now (length table.now.operations - 1) known.now }
     requires size { 1 ≤ size }
-    ensures { IfOk result (λ found. AreFirst (HasNumberWith table.now number) MOST_SETS
+    ensures { IfOk result (λ found. AreFirstWith (HasNumberWith table.now number) MOST_SETS
         (sets_of_size table.now size) (set_lists found)) }
 {
     let sets = sets_of_size(alloc, table, size)?;

@@ -1,26 +1,10 @@
 //! The table with one operation of those that lead from each state to the same one.
 ghost use Rattle.std.specs.Prelude.{◌<◌, ◌↔◌, All, IfOk, IsTrue, length, map};
-ghost use Rattle.cn_telling.specs.Rows.{HaveOneRow};
 ghost use Rattle.cn_recover.specs.Rows.{AreOfEachRow, HasRowOf, IsByRows};
 
-use cn_table::{Operation, State, Table};
+use cn_table::{Operation, Table};
+use cn_telling::rows::have_one_row;
 use std::alloc::{AllocError, Global};
-
-/// Whether the two operations lead from each state to the same one.
-fn have_one_row(table: &Table, one: Operation, other: Operation) -> bool
-    requires one { one.0 < length table.now.operations }
-    requires other { other.0 < length table.now.operations }
-    ensures { IsTrue result ↔ HaveOneRow table.now one.0 other.0 }
-{
-    for state in 0..table.states() {
-        let (_, next) = table.apply(one, State(state));
-        let (_, other_next) = table.apply(other, State(state));
-        if next.0 != other_next.0 {
-            return false;
-        }
-    }
-    true
-}
 
 /// Whether the operation has the row of one of these.
 fn has_row_of(table: &Table, operations: &[Operation], operation: Operation) -> bool

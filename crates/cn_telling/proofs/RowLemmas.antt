@@ -264,7 +264,7 @@ module _ (a b : ℕ) (other : a ≢ b) where
 
 -- ---- stocks without two operations of one row
 
-row_or : (xs ys : List ℕ) → (xs ≡ ys) ⊎ (xs ≢ ys)
+pub row_or : (xs ys : List ℕ) → (xs ≡ ys) ⊎ (xs ≢ ys)
 row_or [] [] = inl refl
 row_or [] (y ∷ ys) = inr (λ e. absurd (cc e))
 row_or (x ∷ xs) [] = inr (λ e. absurd (cc e))

@@ -20,7 +20,7 @@ pub mod joins;
 pub mod laws;
 pub mod levels;
 mod meetings;
-mod rows;
+pub mod rows;
 pub mod search;
 pub mod shown;
 mod stock_splits;

@@ -3,7 +3,7 @@ use Rattle.std.specs.Prelude.{Vec}
 use Rattle.std.specs.declared.alloc.Global.{Global}
 use Rattle.std.proofs.lemmas.List.{length-map}
 use Rattle.cn_table.specs.declared.elements.Operation.{Operation}
-use Rattle.cn_pairs.specs.Firsts.{AreFirst}
+use Rattle.cn_pairs.specs.Firsts.{AreFirstWith}
 use Rattle.cn_pairs.specs.SetNumbers.{numbers, set_lists}
 use Rattle.cn_pairs.specs.Smallest.{HasNumberWith}
 use Rattle.cn_pairs.proofs.FirstSets.{next_has, next_other, no_more_room, pushed_set}
@@ -31,11 +31,11 @@ loop-set-preserved g c =
           (let pushed : set_lists c.if-has.found ≡ so_far ++ numbers set.items ∷ [] =
           pushed_set c.loop-set.found.items c.if-has.found.items w.in_ok-from_slice.field-0 so_far set.items
           (ap (λ v. v.items) w.found-is ∙ w.in_ok-push.ensures.items) refl (w.in_ok-from_slice.ensures.items ∙ w.as_slice-then-has.ensures.value) in
-          subst (AreFirst (HasNumberWith c.args.table.now c.args.number) 12 lists) (sym pushed)
+          subst (AreFirstWith (HasNumberWith c.args.table.now c.args.number) 12 lists) (sym pushed)
           (next_has c.args.table.now c.args.number c.args.sets.now c.loop-set.set-index so_far c.loop-set.invariant set c.loop-set-test.true c.set-item.is
           (tells.0 w.if-has.true) room))
       | else-has w ↦
-          subst (λ (found : Vec (Vec Operation Global) Global). AreFirst (HasNumberWith c.args.table.now c.args.number) 12 lists (set_lists found)) (sym w.found-is)
+          subst (λ (found : Vec (Vec Operation Global) Global). AreFirstWith (HasNumberWith c.args.table.now c.args.number) 12 lists (set_lists found)) (sym w.found-is)
           (next_other c.args.table.now c.args.number c.args.sets.now c.loop-set.set-index so_far c.loop-set.invariant set c.loop-set-test.true c.set-item.is
           (λ has. absurd (true≢false (sym (tells.1 has) ∙ w.if-has.false))))
     ]

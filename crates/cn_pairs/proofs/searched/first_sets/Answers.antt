@@ -3,7 +3,7 @@ use Rattle.std.specs.Prelude.{IfOk, Vec}
 use Rattle.std.specs.declared.alloc.Global.{Global}
 use Rattle.cn_table.specs.Restriction.{AreOperations}
 use Rattle.cn_table.specs.declared.elements.Operation.{Operation}
-use Rattle.cn_pairs.specs.Firsts.{AreFirst}
+use Rattle.cn_pairs.specs.Firsts.{AreFirstWith}
 use Rattle.cn_pairs.specs.SetNumbers.{numbers, set_lists}
 use Rattle.cn_pairs.specs.Smallest.{HasNumberWith}
 use Rattle.cn_pairs.proofs.SetLists.{sets_are}
@@ -16,5 +16,5 @@ first_of-requires-clause-sets g c κs within =
 
 pub returns : goal.returns
 returns g c =
-    subst (λ (lists : List (List ℕ)). IfOk c.first_of.result (λ found. AreFirst (HasNumberWith c.args.table.now c.args.number) 12 lists (set_lists found)))
+    subst (λ (lists : List (List ℕ)). IfOk c.first_of.result (λ found. AreFirstWith (HasNumberWith c.args.table.now c.args.number) 12 lists (set_lists found)))
     (ap (map (λ (set : Vec Operation Global). numbers set.items)) c.as_slice.ensures.value ∙ c.in_ok-sets.ensures) c.first_of.ensures

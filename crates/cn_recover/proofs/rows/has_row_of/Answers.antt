@@ -1,4 +1,4 @@
-use Rattle.std.proofs.Common.{◌<◌, ◌∙◌, ap, sym, true≢false, length, map, refl, subst}
+use Rattle.std.proofs.Common.{sym, true≢false, map, subst}
 use Rattle.std.proofs.lemmas.List.{take_all}
 use Rattle.std.proofs.lemmas.List.Elements.{All-more, recursion_from_All}
 use Rattle.cn_choice.proofs.ListLemmas.Members.{IsIn-from_Contains, IsIn-map_from, each_at}
