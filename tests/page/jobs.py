@@ -26,7 +26,7 @@ NO_THREAD = b"", b"cnum: cannot start a thread\n", 4
 CRASHES = "0,1,0,1,c1,0,0,0,0,0,1,1,1,1,1,1,c0,0,0,0,c0,c1,1,1,1"
 # Types, each with a number of processes, whose shortest plans have two and more teams at a node, and one node and several.
 PLANS = [("types/sticky_bit", 8), ("types/three_shot", 3), ("catalogue/queue_2", 8), ("catalogue/cas_4", 8), ("catalogue/cas_6", 5)]
-COMMANDS = ("find", "classify", "lint", "check", "explain", "why", "pairs", "show", "draw", "agree", "replay", "serve")
+COMMANDS = ("find", "classify", "lint", "check", "explain", "why", "pairs", "changes", "show", "draw", "agree", "replay", "serve")
 
 
 def hostile_tables():
@@ -93,6 +93,7 @@ class Jobs:
         self.run(["classify", "--limit", "5", "-"], table)
         for form in ("text", "json", "markdown"):
             self.run(["pairs", "--as", form, "-"], table)
+            self.run(["changes", "--as", form, "-"], table)
         for form in ("text", "json", "markdown"):
             self.run(["classify", "--recoverable", "--as", form, "-"], table)
             self.run(["classify", "--without-read", "--as", form, "-"], table)

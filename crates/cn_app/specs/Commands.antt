@@ -1,6 +1,7 @@
 -- What each command writes.
 pub mod Agree
 pub mod AgreeShortest
+pub mod Changes
 pub mod Check
 pub mod CheckShortest
 pub mod CheckStocks

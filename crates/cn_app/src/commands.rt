@@ -26,5 +26,5 @@ pub use of_several_tables::{NamedTable, Tell, classify_each};
 pub use of_shortest_plans::{agree_shortest, show_shortest};
 pub use of_stocks::{check_stocks, explain_stocks, find_stocks, why_stocks};
 pub use of_tables::{
-    classify, draw, find, find_unread, lint, pairs, why, why_recoverable, why_unread,
+    changes, classify, draw, find, find_unread, lint, pairs, why, why_recoverable, why_unread,
 };

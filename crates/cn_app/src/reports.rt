@@ -5,6 +5,7 @@
 
 mod agree;
 mod agree_shortest;
+mod changes;
 pub(crate) mod check;
 pub(crate) mod check_shortest;
 pub(crate) mod check_stocks;
@@ -33,7 +34,9 @@ mod why_unread;
 
 pub use agree::{AskedRun, agree_report};
 pub use agree_shortest::agree_shortest_report;
+pub use changes::{AskedChanges, changes_report};
 pub use classify::{AskedNumbers, check_limit, classification_of, head_report, numbers_report};
+pub use cn_changes::NumberKind;
 pub use draw::draw_report;
 pub use explain::explain_report;
 pub use explain_stocks::explain_stocks_report;

@@ -1,3 +1,4 @@
+pub mod Changes
 pub mod Flaws
 pub mod Values
 pub mod Tokens

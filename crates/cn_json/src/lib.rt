@@ -5,8 +5,8 @@
 //! certificate, [`flaws_json`] the flaws of the text of a table, [`course_json`] the decisions and
 //! the steps of processes, [`log_json`] and [`service_json`] what happened in a log,
 //! [`explanation_json`], [`recoverable_explanation_json`] and [`unread_explanation_json`] why a
-//! number is what it is, [`pairs_json`] the numbers of operations and of their pairs,
-//! [`plan_json`] a plan, [`tree_plan_json`] a plan tree, and [`tree_course_json`] a run along one.
+//! number is what it is, [`pairs_json`] the numbers of operations and of their pairs, [`changes_json`]
+//! those of a type with other entries, [`plan_json`] a plan, [`tree_plan_json`] a plan tree, and [`tree_course_json`] a run along one.
 //! Each text is that of a JSON value, which is a function of the answer.
 //!
 //! ```text
@@ -15,6 +15,7 @@
 //! ```
 #![tactic(auto)]
 
+mod changes;
 mod choice;
 mod collisions;
 mod course;
@@ -39,6 +40,7 @@ mod value;
 mod verdict;
 mod witness;
 
+pub use changes::changes_json;
 pub use cn_reasons::TypeNumber;
 pub use course::{course_json, decisions_json};
 pub use explanation::explanation_json;

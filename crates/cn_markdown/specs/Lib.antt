@@ -1,3 +1,4 @@
+pub mod Changes
 pub mod Rows
 pub mod Numbers
 pub mod TypeTable

@@ -2,8 +2,9 @@
 //!
 //! [`number_head`] and [`number_row`] answer the head and the rows of a table of types and their
 //! numbers. [`explanation_markdown`], [`recoverable_explanation_markdown`] and
-//! [`unread_explanation_markdown`] tell why a number is what it is, and [`pairs_table`] has the numbers
-//! of pairs of operations. Each text is a function of the values that it shows.
+//! [`unread_explanation_markdown`] tell why a number is what it is. [`pairs_table`] has the numbers of
+//! pairs of operations, and [`changes_table`] those of a type with other entries. Each text is a
+//! function of the values that it shows.
 //!
 //! ```text
 //! print!(rt; "{}", number_head(alloc, false, false)?)?;
@@ -12,6 +13,7 @@
 //! ```
 #![tactic(auto)]
 
+mod changes;
 mod explanation;
 mod lasting;
 mod numbers;
@@ -22,6 +24,7 @@ mod type_table;
 mod unread;
 mod witness;
 
+pub use changes::changes_table;
 pub use explanation::explanation_markdown;
 pub use numbers::{number_head, number_row};
 pub use pairs::pairs_table;

@@ -21,7 +21,7 @@ fn push_state_cells(text: &mut String, table: &Table) -> Result<(), AllocError>
 
 /// The head: what a cell tells, and the states.
 #[tactic(auto, unfolding(crate::specs::TypeTable::states_head))]
-fn push_states_head(text: &mut String, table: &Table) -> Result<(), AllocError>
+pub(crate) fn push_states_head(text: &mut String, table: &Table) -> Result<(), AllocError>
     ensures { OnOk result (string_bytes text.new ≡ string_bytes text.old ++ states_head table.now) }
 {
     text.push_str("| response > next state |")?;

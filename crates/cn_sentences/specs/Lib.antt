@@ -1,3 +1,4 @@
+pub mod Changes
 pub mod Groups
 pub mod Lines
 pub mod Numbers

@@ -1,6 +1,6 @@
 //! What a text for people and a Markdown document say in the same words: the processes of a group,
-//! states, numbers, some whole lines, sentences on numbers without reads, and the cells of a triangle
-//! of pairs of operations.
+//! states, numbers, some whole lines, sentences on numbers without reads, changes that raise a number,
+//! and the cells of a triangle of pairs of operations.
 //!
 //! Each function writes behind the text so far, or answers a text, and each text is a function of the
 //! values that it shows. By [`laws::cells_tell_numbers`] the cells of a triangle tell the numbers of
@@ -13,6 +13,7 @@
 //! ```
 #![tactic(auto)]
 
+mod changes;
 mod groups;
 pub mod laws;
 mod lines;
@@ -23,6 +24,7 @@ mod states;
 mod triangle;
 mod unread;
 
+pub use changes::{push_change_lines, push_changes_head};
 pub use groups::{process_name, push_members, push_processes};
 pub use lines::{alone_line, push_limit_line, push_reader};
 pub use numbers::number_words;

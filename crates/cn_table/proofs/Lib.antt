@@ -12,3 +12,4 @@ pub mod Restrictions
 pub mod PickedNames
 pub mod Classes
 pub mod Closed
+pub mod OtherEntries

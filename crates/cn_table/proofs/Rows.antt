@@ -3,8 +3,10 @@ use Rattle.std.proofs.Common.{◌≡◌, ℕ, zero, suc, ◌<◌, List, [], ◌�
 use Rattle.std.specs.List.{AllByRecursion, slice_get}
 use Rattle.std.proofs.lemmas.List.{length-map}
 use Rattle.std.proofs.lemmas.Option.{slice_get-map, slice_get_read}
-use Rattle.cn_table.specs.TypeTable.{Row}
-use Rattle.cn_table.specs.TableView.{transitions_view}
+use Rattle.cn_table.specs.DraftView.{texts_view}
+use Rattle.cn_table.specs.TypeTable.{IsRow, IsTypeTable, Row, TypeTable}
+use Rattle.cn_table.specs.TableView.{table_view, transitions_view}
+use Rattle.cn_table.specs.declared.table.Table.TheInside.{Inside}
 use Rattle.cn_table.specs.declared.table.Transitions.{Transitions}
 
 pub all_at : {X : Type 0} (P : X → Type 0) (xs : List X) (i : ℕ) (d : X) → i < length xs → AllByRecursion P xs → P (get_or xs i d)
@@ -25,3 +27,9 @@ pub name_at : (rows : List Transitions) (i : ℕ) (r : Transitions) → i < leng
 name_at rows i r within is =
     let below : i < length rows = omega (arith, within, length-map rows transitions_view) in
     rw (slice_get-map (λ (row : Row). row.name) (map transitions_view rows) i, slice_get-map transitions_view rows i, slice_get_read rows (length rows) i r refl below is) refl
+
+-- the row that is read is one of the table
+pub the_row : (inside : Inside) (t : TypeTable) (o : ℕ) (r : Transitions) → table_view inside ≡ t → IsTypeTable (table_view inside) → o < length t.operations → r ≡ get_or inside.operations.items o r
+    → IsRow (length t.states) (length t.responses) (transitions_view r)
+the_row inside t o r seen table within is =
+    rw (← seen) (row_holds (IsRow (length (texts_view inside.states)) (length (texts_view inside.responses))) inside.operations.items o r (rw (← seen) at within) is table.rows)

@@ -13,3 +13,4 @@ pub mod TableView
 pub mod FaultText
 pub mod Reach
 pub mod Restriction
+pub mod OtherEntry

@@ -206,7 +206,7 @@ pub(crate) fn copy_texts(alloc: Global, texts: &[String]) -> Result<Vec<String>,
     Ok(copy)
 }
 
-fn copy_transitions(alloc: Global, row: &Transitions) -> Result<Transitions, AllocError>
+pub(crate) fn copy_transitions(alloc: Global, row: &Transitions) -> Result<Transitions, AllocError>
     ensures { IfOk result (λ copy. transitions_view copy ≡ transitions_view row.now) }
 {
     Ok(Transitions {
@@ -216,7 +216,10 @@ fn copy_transitions(alloc: Global, row: &Transitions) -> Result<Transitions, All
     })
 }
 
-fn copy_all_transitions(alloc: Global, rows: &[Transitions]) -> Result<Vec<Transitions>, AllocError>
+pub(crate) fn copy_all_transitions(
+    alloc: Global,
+    rows: &[Transitions],
+) -> Result<Vec<Transitions>, AllocError>
     ensures { IfOk result (λ copy. transitions_views copy ≡ map transitions_view rows.now) }
 {
     let mut copy = Vec::new(alloc);

@@ -1,3 +1,4 @@
+pub mod ChangeLines
 pub mod Columns
 pub mod Diagram
 pub mod Explanation

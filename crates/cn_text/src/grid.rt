@@ -47,7 +47,11 @@ pub(crate) fn push_cells(text: &mut String, table: &Table) -> Result<(), AllocEr
 }
 
 /// Writes the pieces in the column of the operations.
-fn push_name_cell(text: &mut String, table: &Table, pieces: &[&str]) -> Result<(), AllocError>
+pub(crate) fn push_name_cell(
+    text: &mut String,
+    table: &Table,
+    pieces: &[&str],
+) -> Result<(), AllocError>
     ensures { OnOk result (string_bytes text.new
         ≡ string_bytes text.old ++ name_cell table.now (flat_map (λ p. p.now) pieces.now)) }
 {
@@ -55,7 +59,7 @@ fn push_name_cell(text: &mut String, table: &Table, pieces: &[&str]) -> Result<(
 }
 
 /// How wide a cell in the column of a state is.
-fn cell_width(table: &Table, state: State) -> usize
+pub(crate) fn cell_width(table: &Table, state: State) -> usize
     requires { state.0 < length table.now.states }
     ensures { result ≡ cell_width table.now state.0 }
 {
@@ -77,7 +81,7 @@ fn push_head_cell(text: &mut String, table: &Table, state: State) -> Result<(), 
 }
 
 #[tactic(auto, using(cn_pieces::proofs::Ranges::pieces_behind))]
-fn push_head_cells(text: &mut String, table: &Table) -> Result<(), AllocError>
+pub(crate) fn push_head_cells(text: &mut String, table: &Table) -> Result<(), AllocError>
     ensures { OnOk result (string_bytes text.new ≡ string_bytes text.old
         ++ flat_map (head_cell table.now) (range_with_len 0 (length table.now.states))) }
 {

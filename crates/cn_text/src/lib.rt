@@ -3,8 +3,9 @@
 //! [`grid_of`] answers the grid of a table, and [`diagram_of`] its picture for Graphviz.
 //! [`explanation_of`] tells an [`Explanation`](cn_reasons::Explanation) to people, and
 //! [`recoverable_explanation_of`] that of a recoverable number, and [`unread_explanation_of`] that of a
-//! number without reads. [`pairs_lines`] has the numbers of pairs of operations as a triangle. Each
-//! text is a function of the values that it shows.
+//! number without reads. [`pairs_lines`] has the numbers of pairs of operations as a triangle, and
+//! [`changes_lines`] those of a type with other entries. Each text is a function of the values that it
+//! shows.
 //!
 //! ```text
 //! print!(rt; "{}", grid_of(alloc, &table)?)?;
@@ -13,6 +14,7 @@
 //! ```
 #![tactic(auto)]
 
+mod change_lines;
 mod columns;
 mod diagram;
 mod explanation;
@@ -29,6 +31,7 @@ mod unread_views;
 mod views;
 mod ways;
 
+pub use change_lines::changes_lines;
 pub use diagram::diagram_of;
 pub use explanation::explanation_of;
 pub use grid::grid_of;

@@ -15,13 +15,13 @@ use Rattle.cn_form.specs.declared.plan_form.PlanForm.{PlanForm}
 use Rattle.cn_form.specs.declared.answer_form.AnswerForm.{AnswerForm}
 use Rattle.cn_form.specs.declared.answer_form.AnswerForm.TheVariants as answer
 use Rattle.cn_words.specs.declared.commands.Command.{Command}
-use Rattle.cn_words.specs.declared.commands.Command.TheVariants.{Find, FindUnread, FindShortest, FindStocks, Lint, Draw, Check, CheckUnread, CheckShortest, CheckStocks, Explain, ExplainStocks, Why, WhyRecoverable, WhyUnread, WhyStocks, Pairs, Show, Agree, Replay, Serve}
+use Rattle.cn_words.specs.declared.commands.Command.TheVariants.{Find, FindUnread, FindShortest, FindStocks, Lint, Draw, Check, CheckUnread, CheckShortest, CheckStocks, Explain, ExplainStocks, Why, WhyRecoverable, WhyUnread, WhyStocks, Pairs, Changes, Show, Agree, Replay, Serve}
 use Rattle.cn_words.specs.declared.commands.Invocation.{Invocation}
 use Rattle.cn_words.specs.declared.commands.Invocation.TheVariants.{Classify, Lives, OfTable, ShortestPlan, ShortestRun}
 use Rattle.cn_words.specs.declared.commands.OpeningWords.{OpeningWords}
 use Rattle.cn_words.specs.declared.commands.TextSource.{TextSource}
 use Rattle.cn_words.specs.declared.without_certificate.RunWords.{RunWords}
-use Rattle.cn_words.specs.GivenCommands.{Finds, HasAnswerForm, HasCertificate, HasDocumentForm, HasFlag, HasForm, HasLimit, HasNumber, HasOpening, HasOptionalNumber, HasPlanTable, HasRun, HasRunTable, HasTables, HasWord, IsByte, IsInvocation, IsNamed, asks_for_shortest, excludes_certificate, is_flag_set, is_limit_excluded, is_of_plan, path_in, path_of}
+use Rattle.cn_words.specs.GivenCommands.{Finds, HasAnswerForm, HasCertificate, HasDocumentForm, HasFlag, HasForm, HasLimit, HasNumber, HasOpening, HasOptionalNumber, HasPlanTable, HasRun, HasRunTable, HasTables, HasWord, IsByte, IsInvocation, IsNamed, asks_for_shortest, excludes_certificate, is_flag_set, is_limit_excluded, is_number_twofold, is_of_plan, path_in, path_of}
 
 -- two views of an optional value make their pair
 pub pair_of : {A B C : Type 0} (f : A → B) (g : A → C) (o : Option A) (q : Option (B × C)) → option_map f o ≡ option_map (λ p. p.0) q
@@ -142,13 +142,14 @@ Wants name rows =
     (MatchBool (bytes_eq name (codes "why"))
     (WantsWhy rows (is_flag_set (codes "stocks") rows) (is_flag_set (codes "without-read") rows) (is_flag_set (codes "recoverable") rows))
     (MatchBool (bytes_eq name (codes "pairs")) ((form : DocumentForm) × HasDocumentForm rows form)
+    (MatchBool (bytes_eq name (codes "changes")) (((form : DocumentForm) × HasDocumentForm rows form) × (is_number_twofold rows ≡ false))
     (MatchBool (bytes_eq name (codes "show")) (((w : TextSource) × HasCertificate rows w) × ((plan : PlanForm) × HasForm rows plan) × (excludes_certificate rows ≡ false))
     (MatchBool (bytes_eq name (codes "agree"))
     (((w : TextSource) × HasCertificate rows w) × ((l : Bor Text) × HasWord (codes "INPUTS") rows l.now) × ((l : Bor Text) × HasWord (codes "SCHEDULE") rows l.now)
     × ((form : AnswerForm) × HasAnswerForm rows form) × (excludes_certificate rows ≡ false))
     (MatchBool (bytes_eq name (codes "replay")) (((o : OpeningWords) × HasOpening rows o) × ((l : Bor Text) × HasWord (codes "EVENTS") rows l.now) × ((form : AnswerForm) × HasAnswerForm rows form))
     (MatchBool (bytes_eq name (codes "serve")) (((o : OpeningWords) × HasOpening rows o) × ((l : Bor Text) × HasWord (codes "CALLS") rows l.now) × ((form : AnswerForm) × HasAnswerForm rows form))
-    ⊥))))))))))
+    ⊥)))))))))))
 
 -- the same for the same flags
 pub limits : (rows : List Row) (w r d e : Bool) → w ≡ d → r ≡ e → WantsLimit rows d e → WantsLimit rows w r
@@ -224,6 +225,7 @@ wants name rows (WhyUnread all form) h =
 wants name rows (WhyStocks limit all) h =
     subst (λ n. Wants n rows) (sym h.0) (tells_stocks rows _ _ _ h.1.5 (h.1.4, h.1.3, (limit, h.1.0), h.1.2))
 wants name rows (Pairs form) h = subst (λ n. Wants n rows) (sym h.0) (form, h.1)
+wants name rows (Changes recoverable without_read pairs form) h = subst (λ n. Wants n rows) (sym h.0) ((form, h.1.3), h.1.4)
 wants name rows (Show certificate plan) h = subst (λ n. Wants n rows) (sym h.0) ((certificate, h.1.0), (plan, h.1.1), h.1.2)
 wants name rows (Agree certificate inputs schedule steps form) h =
     subst (λ n. Wants n rows) (sym h.0) ((certificate, h.1.0), (inputs, h.1.1), (schedule, h.1.2), (form, h.1.4), h.1.5)

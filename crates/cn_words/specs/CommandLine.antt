@@ -88,6 +88,7 @@ pub record Forms : Type 0 where
   pub explain : ValueParser
   pub why : ValueParser
   pub pairs : ValueParser
+  pub changes : ValueParser
   pub show : ValueParser
   pub agree : ValueParser
   pub replay : ValueParser
@@ -101,6 +102,7 @@ pub record TakesForms (forms : Forms) : Type 0 where
   pub explain : TakesWords answer_forms forms.explain
   pub why : TakesWords document_forms forms.why
   pub pairs : TakesWords document_forms forms.pairs
+  pub changes : TakesWords document_forms forms.changes
   pub show : TakesWords plan_forms forms.show
   pub agree : TakesWords answer_forms forms.agree
   pub replay : TakesWords answer_forms forms.replay
@@ -150,6 +152,11 @@ why_words forms = command_with (codes "why")
 abbrev pub pairs_words : ValueParser → Shape
 pairs_words forms = command_with (codes "pairs") (table_word ∷ form_option forms ∷ [])
 
+abbrev pub changes_words : ValueParser → Shape
+changes_words forms = command_with (codes "changes")
+    (table_word ∷ flag (codes "recoverable") ∷ flag (codes "without-read") ∷ flag (codes "pairs")
+    ∷ form_option forms ∷ [])
+
 abbrev pub show_words : ValueParser → Shape
 show_words forms = command_with (codes "show")
     (optional_certificate_word ∷ flag (codes "shortest") ∷ flag (codes "without-read")
@@ -179,8 +186,8 @@ serve_words forms = command_with (codes "serve")
 abbrev pub commands : Forms → List Shape
 commands forms = find_words ∷ classify_words forms.classify ∷ lint_words forms.lint
     ∷ check_words forms.check ∷ explain_words forms.explain ∷ why_words forms.why
-    ∷ pairs_words forms.pairs ∷ show_words forms.show ∷ draw_words ∷ agree_words forms.agree
-    ∷ replay_words forms.replay ∷ serve_words forms.serve ∷ []
+    ∷ pairs_words forms.pairs ∷ changes_words forms.changes ∷ show_words forms.show ∷ draw_words
+    ∷ agree_words forms.agree ∷ replay_words forms.replay ∷ serve_words forms.serve ∷ []
 
 -- the program with these commands in this order; a command is required
 abbrev pub program_with : List Shape → App

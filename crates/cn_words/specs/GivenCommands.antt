@@ -23,6 +23,7 @@ use Rattle.cn_words.specs.declared.commands.Command.TheVariants.{CheckStocks, Fi
 use Rattle.cn_words.specs.declared.commands.Command.TheVariants.{Explain, Why, WhyRecoverable}
 use Rattle.cn_words.specs.declared.commands.Command.TheVariants.{ExplainStocks, WhyStocks}
 use Rattle.cn_words.specs.declared.commands.Command.TheVariants.{WhyUnread, Pairs, Show, Agree}
+use Rattle.cn_words.specs.declared.commands.Command.TheVariants.{Changes}
 use Rattle.cn_words.specs.declared.commands.Command.TheVariants.{Replay, Serve}
 use Rattle.cn_words.specs.declared.commands.CommandFault.{CommandFault}
 use Rattle.cn_words.specs.declared.commands.CommandFault.TheVariants as fault
@@ -194,6 +195,11 @@ abbrev pub is_limit_excluded : List Row → Bool
 is_limit_excluded rows =
     is_flag_set (codes "without-read") rows && is_some (first_of (codes "limit") rows)
 
+-- whether the flags of two numbers stand side by side
+abbrev pub is_number_twofold : List Row → Bool
+is_number_twofold rows =
+    is_flag_set (codes "recoverable") rows && is_flag_set (codes "without-read") rows
+
 -- ---- the commands
 
 abbrev pub name_of : Command → Text
@@ -214,6 +220,7 @@ name_of (WhyRecoverable all form) = codes "why"
 name_of (WhyUnread all form) = codes "why"
 name_of (WhyStocks limit all) = codes "why"
 name_of (Pairs form) = codes "pairs"
+name_of (Changes recoverable without_read pairs form) = codes "changes"
 name_of (Show certificate plan) = codes "show"
 name_of (Agree certificate inputs schedule steps form) = codes "agree"
 name_of (Replay opening events form) = codes "replay"
@@ -283,6 +290,11 @@ HasArguments rows (WhyStocks limit all) =
     × (is_flag_set (codes "without-read") rows ≡ false)
     × (is_flag_set (codes "stocks") rows ≡ true)
 HasArguments rows (Pairs form) = HasDocumentForm rows form
+HasArguments rows (Changes recoverable without_read pairs form) =
+    (recoverable ≡ is_flag_set (codes "recoverable") rows)
+    × (without_read ≡ is_flag_set (codes "without-read") rows)
+    × (pairs ≡ is_flag_set (codes "pairs") rows) × HasDocumentForm rows form
+    × (is_number_twofold rows ≡ false)
 HasArguments rows (Show certificate plan) =
     HasCertificate rows certificate × HasForm rows plan × (excludes_certificate rows ≡ false)
 HasArguments rows (Agree certificate inputs schedule steps form) =

@@ -2,7 +2,7 @@
 ghost use Rattle.std.specs.Prelude.{◌≡◌, IfOk, MatchResult, codes, false, map, option_map, true};
 ghost use Rattle.clap.specs.Simple.{subcommand_rows_of};
 ghost use Rattle.clap.specs.Walk.{first_of};
-ghost use Rattle.cn_words.specs.GivenCommands.{Finds, HasAnswerForm, HasCertificate, HasDocumentForm, HasForm, HasLimit, HasNumber, HasOpening, HasOptionalNumber, HasTable, HasTables, HasWord, IsInvocation, IsInvocationOf, IsNamed, RefusesCommand, asks_for_shortest, is_flag_set, is_input, is_input_shared, is_limit_excluded, is_of_plan, is_table_twice, path_in, path_of, rows_in, table_in};
+ghost use Rattle.cn_words.specs.GivenCommands.{Finds, HasAnswerForm, HasCertificate, HasDocumentForm, HasForm, HasLimit, HasNumber, HasOpening, HasOptionalNumber, HasTable, HasTables, HasWord, IsInvocation, IsInvocationOf, IsNamed, RefusesCommand, asks_for_shortest, is_flag_set, is_input, is_input_shared, is_limit_excluded, is_number_twofold, is_of_plan, is_table_twice, path_in, path_of, rows_in, table_in};
 ghost use Rattle.cn_words.specs.declared.commands.CommandFault.TheVariants.{OutOfMemory};
 
 use crate::plan_certificates::{check_shortest, find_shortest};
@@ -142,6 +142,17 @@ pub enum Command<'a> {
     },
     /// Writes the numbers of the operations of the type and of their pairs.
     Pairs {
+        /// The form of the answer.
+        form: DocumentForm,
+    },
+    /// Writes the numbers of the type with each other entry in its table.
+    Changes {
+        /// Whether these are recoverable numbers.
+        recoverable: bool,
+        /// Whether these are numbers without reads.
+        without_read: bool,
+        /// Whether changes of two entries are tried where none of one raises the number.
+        pairs: bool,
         /// The form of the answer.
         form: DocumentForm,
     },
@@ -557,6 +568,29 @@ fn pairs<'a>(words: &ArgMatches<'a>) -> Option<Command<'a>>
     })
 }
 
+// Whether the flags of two numbers stand side by side.
+fn is_number_twofold(words: &ArgMatches<'_>) -> bool
+    ensures { result ≡ is_number_twofold (rows_in words.now) }
+{
+    is_flag_set(words, "recoverable") && is_unread(words)
+}
+
+// The numbers are of one kind.
+fn changes<'a>(words: &ArgMatches<'a>) -> Option<Command<'a>>
+    ensures { Finds (IsNamed (codes "changes") (rows_in words.now)) result }
+{
+    if is_number_twofold(words) {
+        return None;
+    }
+    let form = document_form(words)?;
+    Some(Command::Changes {
+        recoverable: is_flag_set(words, "recoverable"),
+        without_read: is_unread(words),
+        pairs: is_flag_set(words, "pairs"),
+        form,
+    })
+}
+
 fn show<'a>(words: &ArgMatches<'a>) -> Option<Command<'a>>
     ensures { Finds (IsNamed (codes "show") (rows_in words.now)) result }
 {
@@ -616,6 +650,7 @@ fn command_named<'a>(name: &str, words: &ArgMatches<'a>) -> Option<Command<'a>>
         "explain" => explain(words),
         "why" => why(words),
         "pairs" => pairs(words),
+        "changes" => changes(words),
         "show" => show(words),
         "agree" => agree(words),
         "replay" => replay(words),

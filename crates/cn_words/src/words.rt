@@ -2,7 +2,7 @@
 ghost use Rattle.std.specs.Prelude.{◌≡◌, [], ◌∷◌, IfOk, codes};
 ghost use Rattle.clap.specs.Simple.{new_shape};
 ghost use Rattle.clap.specs.Walk.{texts};
-ghost use Rattle.cn_words.specs.CommandLine.{AddsArgument, AddsCommand, AddsTable, HasCommands, HasCommandsFor, IsArgument, IsCommand, IsCommandFor, TakesWords, agree_words, answer_forms, certificate_word, check_words, classify_words, command_with, commands, document_forms, draw_words, explain_words, file_word, find_words, flag, form_option, limit_option, lint_words, opening_words, optional_certificate_word, pairs_words, plan_forms, processes_option, replay_words, required_word, required_words, serve_words, show_words, table_option, table_word, value_option, why_words};
+ghost use Rattle.cn_words.specs.CommandLine.{AddsArgument, AddsCommand, AddsTable, HasCommands, HasCommandsFor, IsArgument, IsCommand, IsCommandFor, TakesWords, agree_words, answer_forms, certificate_word, changes_words, check_words, classify_words, command_with, commands, document_forms, draw_words, explain_words, file_word, find_words, flag, form_option, limit_option, lint_words, opening_words, optional_certificate_word, pairs_words, plan_forms, processes_option, replay_words, required_word, required_words, serve_words, show_words, table_option, table_word, value_option, why_words};
 
 use clap::builder::ValueParser;
 use clap::{Arg, ArgAction, Command, value_parser};
@@ -43,11 +43,11 @@ const ABOUT: &str = "Finds and checks the consensus number of a shared object ty
 const AFTER: &str = help!(
     "\
 Input: a type table in TOML on standard input, at most 65536 bytes, or in FILE, which is the last
-word or stands behind --table. classify reads one from each FILE, and why and pairs need FILE. CERT
-is a file that holds a certificate, at most 16777216 bytes, or - for standard input where the table
-is in a file. OBJECT is a file that holds the table of an object, at most 65536 bytes. INPUTS,
-SCHEDULE, EVENTS and CALLS are lists, or @ and the name of a file that holds the list, at most
-1048576 bytes.
+word or stands behind --table. classify reads one from each FILE, and why, pairs and changes need
+FILE. CERT is a file that holds a certificate, at most 16777216 bytes, or - for standard input where
+the table is in a file. OBJECT is a file that holds the table of an object, at most 65536 bytes.
+INPUTS, SCHEDULE, EVENTS and CALLS are lists, or @ and the name of a file that holds the list, at
+most 1048576 bytes.
 Output: on standard output, written at once. After a fault there is none, but for three: lint writes
 the flaws of a refused table, check --as json the fault of a certificate, and after a failed write
 it is open how much went out. A fault is one line on standard error. In classify each table has a
@@ -260,6 +260,32 @@ With --as markdown this is a table and a list for a document; with --as json, on
 ",
     "  cnum pairs types/test_and_set.toml
 writes last The number 2 of the type needs all operations."
+);
+
+const CHANGES_ABOUT: &str = "Writes the numbers of the type with each other entry in its table";
+
+const CHANGES_AFTER: &str = help!(
+    "\
+Reads a type table in TOML from FILE; - is standard input. An entry of the table is what one
+operation does in one state: a response and a next state. For each entry, each other next state and
+each other response, finds the consensus number that the type would have with them. Writes the number
+of the type; the table as a grid, with a * behind each entry on which the number rests: with some
+other entry there it is less; and a line for each change of one entry that raises the number, the
+greatest number first. Where the number is the same with each response, the line names none.
+
+With --pairs, where no change of one entry raises the number, tries changes of two entries at once,
+the first 50000 of them, and says so where there are more.
+
+With --recoverable these are recoverable numbers; with --without-read, numbers for objects that are
+not read, as far as they are known: one is less than another where this is certain. They do not stand
+side by side. classify tells of both.
+
+With --as markdown this is a table and a list for a document; with --as json, one JSON object, which
+has the number with each change.
+
+",
+    "  cnum changes types/test_and_set.toml
+writes first test_and_set: 2."
 );
 
 /// The forms of an answer.
@@ -669,6 +695,21 @@ fn pairs<'a>(alloc: Global) -> Result<Command<'a>, AllocError>
     with_argument(command, form(alloc, &DOCUMENT_FORMS, help))
 }
 
+fn changes<'a>(alloc: Global) -> Result<Command<'a>, AllocError>
+    ensures { IfOk result (IsCommandFor document_forms changes_words) }
+{
+    let recoverable = "Tells recoverable numbers";
+    let without_read = "Tells numbers for objects that are not read";
+    let pairs = "Tries changes of two entries where none of one raises the number";
+    let help = "The form in which the numbers are written";
+    let command = bare_command(alloc, "changes", CHANGES_ABOUT, CHANGES_AFTER);
+    let command = with_argument(Ok(command), table_word(alloc));
+    let command = with_argument(command, flag(alloc, "recoverable", recoverable));
+    let command = with_argument(command, flag(alloc, "without-read", without_read));
+    let command = with_argument(command, flag(alloc, "pairs", pairs));
+    with_argument(command, form(alloc, &DOCUMENT_FORMS, help))
+}
+
 fn show<'a>(alloc: Global) -> Result<Command<'a>, AllocError>
     ensures { IfOk result (IsCommandFor plan_forms show_words) }
 {
@@ -776,7 +817,8 @@ pub fn command<'a>(alloc: Global) -> Result<Command<'a>, AllocError>
     let to_explain = with_command(to_check, explain(alloc));
     let to_why = with_command(to_explain, why(alloc));
     let to_pairs = with_command(to_why, pairs(alloc));
-    let to_show = with_command(to_pairs, show(alloc));
+    let to_changes = with_command(to_pairs, changes(alloc));
+    let to_show = with_command(to_changes, show(alloc));
     let to_draw = with_command(to_show, draw(alloc));
     let to_agree = with_command(to_draw, agree(alloc));
     let to_replay = with_command(to_agree, replay(alloc));

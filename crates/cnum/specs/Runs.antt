@@ -1,5 +1,5 @@
 -- What a command of one table reads and writes, by the words for its arguments.
-use Rattle.std.specs.Prelude.{◌≡◌, ◌⊎◌, ℕ, List, None, Option, Some, Result, Ok, Err}
+use Rattle.std.specs.Prelude.{◌≡◌, ◌⊎◌, ℕ, Bool, true, false, List, None, Option, Some, Result, Ok, Err}
 use Rattle.cn_words.specs.declared.commands.Command.{Command}
 use Rattle.cn_words.specs.declared.commands.Command.TheVariants.{Find, FindUnread, Lint}
 use Rattle.cn_words.specs.declared.commands.Command.TheVariants.{Draw, Check, CheckUnread}
@@ -8,6 +8,7 @@ use Rattle.cn_words.specs.declared.commands.Command.TheVariants.{CheckStocks, Fi
 use Rattle.cn_words.specs.declared.commands.Command.TheVariants.{Explain, Why, WhyRecoverable}
 use Rattle.cn_words.specs.declared.commands.Command.TheVariants.{ExplainStocks, WhyStocks}
 use Rattle.cn_words.specs.declared.commands.Command.TheVariants.{WhyUnread, Pairs, Show, Agree}
+use Rattle.cn_words.specs.declared.commands.Command.TheVariants.{Changes}
 use Rattle.cn_words.specs.declared.commands.Command.TheVariants.{Replay, Serve}
 use Rattle.cn_words.specs.declared.commands.OpeningWords.{OpeningWords}
 use Rattle.cn_words.specs.declared.commands.TextSource.{TextSource}
@@ -15,6 +16,7 @@ use Rattle.cn_form.specs.declared.answer_form.AnswerForm.{AnswerForm}
 use Rattle.cn_hall.specs.declared.call.AlwaysOn.{AlwaysOn}
 use Rattle.cn_hall.specs.declared.call.Go.TheVariants.{On}
 use Rattle.cn_app.specs.Commands.Agree.{HasAgreeReport, SpellLists}
+use Rattle.cn_app.specs.Commands.Changes.{HasChangesReport}
 use Rattle.cn_app.specs.Commands.Check.{HasCheckReport}
 use Rattle.cn_app.specs.Commands.CheckShortest.{HasCheckShortestReport}
 use Rattle.cn_app.specs.Commands.CheckStocks.{HasCheckStocksReport}
@@ -49,12 +51,27 @@ use Rattle.cn_io.specs.declared.readers.opening.OpeningArguments.{OpeningArgumen
 use Rattle.cn_io.specs.declared.report.Outcome.{Outcome}
 use Rattle.cn_io.specs.declared.report.Report.{Report}
 use Rattle.cn_app.specs.declared.reports.agree.AskedRun.{AskedRun}
+use Rattle.cn_app.specs.declared.reports.changes.AskedChanges.{AskedChanges}
+use Rattle.cn_changes.specs.declared.kind.NumberKind.{NumberKind}
+use Rattle.cn_changes.specs.declared.kind.NumberKind.TheVariants.{Consensus, Recoverable, WithoutReads}
+use Rattle.cn_form.specs.declared.answer_form.DocumentForm.{DocumentForm}
 use Rattle.cn_io.specs.declared.streams.output.Output.{Output}
 use Rattle.cn_io.specs.declared.streams.text.Text.{Text}
 use Rattle.cnum.specs.GivenLists.{GivesList}
 use Rattle.cnum.specs.Texts.{IsTextFrom, IsTextOf, left_of}
 use Rattle.cnum.specs.declared.lazy_file.LazyFile.{LazyFile}
 use Rattle.cnum.specs.declared.text_reader.TextReader.{TextReader}
+
+-- which number the flags ask for
+abbrev pub asked_kind : Bool → Bool → NumberKind
+asked_kind true without_read = Recoverable
+asked_kind false true = WithoutReads
+asked_kind false false = Consensus
+
+-- what `changes` is asked
+abbrev pub asked_changes : Bool → Bool → Bool → DocumentForm → AskedChanges
+asked_changes recoverable without_read pairs form =
+    record { kind = asked_kind recoverable without_read; pairs = pairs; form = form }
 
 -- the source of the certificate, if a command reads one
 abbrev pub certificate_of : Command → Option TextSource
@@ -69,6 +86,7 @@ certificate_of (WhyRecoverable all form) = None
 certificate_of (WhyUnread all form) = None
 certificate_of (WhyStocks limit all) = None
 certificate_of (Pairs form) = None
+certificate_of (Changes recoverable without_read pairs form) = None
 certificate_of (Check certificate form) = Some certificate
 certificate_of (CheckUnread certificate form) = Some certificate
 certificate_of (CheckShortest certificate form) = Some certificate
@@ -206,6 +224,9 @@ module _ {S D F W : Type 0} (remaining : S → Option (List ℕ)) (left : LazyFi
   RunsOn stdin table (Pairs form) u v r =
       ReadsTable (left_of remaining left) (left_of remaining left) left contents files table
       (λ t. HasPairsReport t form) u v r
+  RunsOn stdin table (Changes recoverable without_read pairs form) u v r =
+      ReadsTable (left_of remaining left) (left_of remaining left) left contents files table
+      (λ t. HasChangesReport t (asked_changes recoverable without_read pairs form)) u v r
   RunsOn stdin table (Check certificate form) u v r = With stdin certificate
       (λ c. ReadsBoth (left_of remaining left) (left_of remaining left) left contents files table c
       (Unit {0}) (λ t d. HasCheckReport t d form) u v r)

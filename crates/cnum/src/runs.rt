@@ -2,7 +2,7 @@
 ghost use Rattle.std.specs.Prelude.{◌≡◌, IfOk, None, Some};
 ghost use Rattle.cnum.specs.NamedTables.{AreNamed, ClassifiesSources, bytes_of, name_of};
 ghost use Rattle.cnum.specs.Runs.{HasArguments, Runs, RunsAgree, RunsOn, RunsReplay};
-ghost use Rattle.cnum.specs.Runs.{RunsServe, certificate_of};
+ghost use Rattle.cnum.specs.Runs.{RunsServe, asked_changes, asked_kind, certificate_of};
 ghost use Rattle.cnum.specs.Texts.{IsTextFrom, IsTextOf, left_in, left_of};
 ghost use Rattle.cn_io.specs.Streams.Reading.{IsUnread};
 ghost use Rattle.cn_io.specs.Streams.Writing.{IsWritable};
@@ -13,9 +13,9 @@ use crate::lazy_file::{LazyFile, file_text};
 use crate::text_reader::TextReader;
 use cn_app::commands::{self, NamedTable, Tell};
 use cn_app::readers::OpeningArguments;
-use cn_app::reports::{AskedNumbers, AskedRun};
+use cn_app::reports::{AskedChanges, AskedNumbers, AskedRun, NumberKind};
 use cn_app::{AppFault, Argument, Known, Outcome, Output, Text};
-use cn_form::AnswerForm;
+use cn_form::{AnswerForm, DocumentForm};
 use cn_hall::AlwaysOn;
 use cn_words::{Command, OpeningWords, TextSource};
 use std::alloc::{AllocError, Global};
@@ -241,6 +241,33 @@ fn certificate_of<'a>(command: &Command<'a>) -> Option<TextSource<'a>>
     }
 }
 
+// Which number the flags ask for.
+fn asked_kind(recoverable: bool, without_read: bool) -> NumberKind
+    ensures { result ≡ asked_kind recoverable without_read }
+{
+    match (recoverable, without_read) {
+        (true, _) => NumberKind::Recoverable,
+        (false, true) => NumberKind::WithoutReads,
+        (false, false) => NumberKind::Consensus,
+    }
+}
+
+// What `changes` is asked.
+fn asked_changes(
+    recoverable: bool,
+    without_read: bool,
+    pairs: bool,
+    form: DocumentForm,
+) -> AskedChanges
+    ensures { result ≡ asked_changes recoverable without_read pairs form }
+{
+    AskedChanges {
+        kind: asked_kind(recoverable, without_read),
+        pairs,
+        form,
+    }
+}
+
 // Runs a command of a table alone.
 fn run_on_table<T: Threads + Sync + Disk, S: Read + Copy, O: Write>(
     rt: &T,
@@ -277,6 +304,15 @@ fn run_on_table<T: Threads + Sync + Disk, S: Read + Copy, O: Write>(
             commands::why_stocks(rt, alloc, table, output, limit, all)
         }
         Command::Pairs { form } => commands::pairs(rt, alloc, table, output, form),
+        Command::Changes {
+            recoverable,
+            without_read,
+            pairs,
+            form,
+        } => {
+            let asked = asked_changes(recoverable, without_read, pairs, form);
+            commands::changes(rt, alloc, table, output, asked)
+        }
         // The command reads no certificate.
         _ => unreachable!(),
     }

@@ -1,5 +1,6 @@
 //! The commands that read a type table.
 ghost use Rattle.std.specs.Prelude.{◌≡◌, ◌⊎◌, None};
+ghost use Rattle.cn_app.specs.Commands.Changes.{HasChangesReport};
 ghost use Rattle.cn_app.specs.Commands.Classify.{HasClassReport, given_limit_fault};
 ghost use Rattle.cn_app.specs.Commands.Draw.{HasDrawReport};
 ghost use Rattle.cn_app.specs.Commands.Find.{HasFindReport};
@@ -13,9 +14,9 @@ ghost use Rattle.cn_io.specs.Streams.Reading.{HasRead, IsUnread};
 ghost use Rattle.cn_io.specs.Streams.Writing.{IsWritable, Reports};
 
 use crate::reports::{
-    AskedNumbers, check_limit, draw_report, find_report, find_unread_report, limit_for,
-    lint_report, numbers_report, pairs_report, why_recoverable_report, why_report,
-    why_unread_report,
+    AskedChanges, AskedNumbers, changes_report, check_limit, draw_report, find_report,
+    find_unread_report, limit_for, lint_report, numbers_report, pairs_report,
+    why_recoverable_report, why_report, why_unread_report,
 };
 use cn_form::{AnswerForm, DocumentForm};
 use cn_io::readers::read_table;
@@ -177,6 +178,31 @@ pub fn pairs<T: Threads + Sync, R: Read, W: Write>(
 {
     let table = read_table(alloc, table)?;
     output.report(pairs_report(rt, alloc, &table, form))
+}
+
+/// Reads a type table and writes its numbers with each other entry in it, in a form
+/// ([`changes_report`]).
+///
+/// # Errors
+///
+/// The first of these: those of [`read_table`]; want of memory; the writer fails.
+pub fn changes<T: Threads + Sync, R: Read, W: Write>(
+    rt: &T,
+    alloc: Global,
+    table: &mut Text<R>,
+    output: &mut Output<W>,
+    asked: AskedChanges,
+) -> Result<Outcome, AppFault>
+    requires table { IsUnread table.old }
+    requires output { IsWritable output.old }
+
+    ensures read { HasRead Source.Table R.remaining table.old table.new }
+    // promise: numbers-by-changes (HasChangesReport: IsChangesReport, AreChanges, changes_in)
+    ensures told { Reports W.contents (HasChangesReport table.new asked)
+        output.old output.new result }
+{
+    let table = read_table(alloc, table)?;
+    output.report(changes_report(rt, alloc, &table, asked))
 }
 
 /// Reads a type table. Answers the numbers asked for in their form ([`numbers_report`]).

@@ -76,3 +76,10 @@ returns-in-Pairs g c = λ stdin. rw c.in-Pairs.is (record {
   read = c.pairs.ensures.read;
   reported = c.pairs.ensures.told;
 })
+
+pub returns-in-Changes : goal.returns-in-Changes
+returns-in-Changes g c = λ stdin. rw (c.in-Changes.is, ← c.asked_changes-asked.ensures) (record {
+  after = c.changes.new.table;
+  read = c.changes.ensures.read;
+  reported = c.changes.ensures.told;
+})

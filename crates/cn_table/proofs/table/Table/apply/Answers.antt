@@ -1,17 +1,6 @@
-use Rattle.std.proofs.Common.{◌≡◌, ◌<◌, length, get_or, ℕ}
-use Rattle.cn_table.specs.TableView.{transitions_view, table_view}
-use Rattle.cn_table.specs.DraftView.{texts_view}
-use Rattle.cn_table.specs.declared.table.Table.TheInside.{Inside}
-use Rattle.cn_table.specs.declared.table.Transitions.{Transitions}
-use Rattle.cn_table.specs.TypeTable.{TypeTable, IsRow, IsTypeTable}
-use Rattle.cn_table.proofs.Rows.{all_at, row_holds}
+use Rattle.std.proofs.Common.{◌<◌, length}
+use Rattle.cn_table.proofs.Rows.{all_at, the_row}
 use Rattle.cn_table.proofs.table.Table.apply.Goals as goal
-
--- the row read is one of the table
-the_row : (inside : Inside) (t : TypeTable) (o : ℕ) (r : Transitions) → table_view inside ≡ t → IsTypeTable (table_view inside) → o < length t.operations → r ≡ get_or inside.operations.items o r
-    → IsRow (length t.states) (length t.responses) (transitions_view r)
-the_row inside t o r seen table within is =
-    rw (← seen) (row_holds (IsRow (length (texts_view inside.states)) (length (texts_view inside.responses))) inside.operations.items o r (rw (← seen) at within) is table.rows)
 
 pub bounds-response-place : goal.bounds-response-place
 bounds-response-place c =
