@@ -8,7 +8,7 @@ use Rattle.cn_changes.specs.Changes.{IsChange, IsTarget, change_if_other, change
 use Rattle.cn_changes.specs.Pairs.{change_pairs, is_before, pair_with, pairs_with}
 use Rattle.cn_changes.specs.declared.change.Change.{Change}
 use Rattle.cn_changes.specs.declared.pairs.ChangePair.{ChangePair}
-use Rattle.cn_changes.specs.declared.target.Target.{Target}
+use Rattle.cn_changes.specs.declared.targets.Target.{Target}
 use Rattle.cn_changes.proofs.Cutting.{each_of_front, each_part}
 use Rattle.cn_changes.proofs.Ranges.{each_in_range}
 

@@ -19,7 +19,7 @@ use Rattle.cn_changes.specs.declared.pairs.ChangePair.{ChangePair}
 use Rattle.cn_changes.specs.declared.pairs.PairNumber.{PairNumber}
 use Rattle.cn_changes.specs.declared.pairs.PairNumbers.{PairNumbers}
 use Rattle.cn_changes.specs.declared.pairs.TheConstants.{MOST_PAIRS}
-use Rattle.cn_changes.specs.declared.target.Target.{Target}
+use Rattle.cn_changes.specs.declared.targets.Target.{Target}
 use Rattle.cn_changes.proofs.Cutting.{each_part}
 use Rattle.cn_changes.proofs.Known.{IsKnownPair, changes_known, pairs_known, targets_known}
 use Rattle.cn_changes.proofs.Ranges.{each_in_range}

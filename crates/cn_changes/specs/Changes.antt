@@ -5,7 +5,7 @@ use Rattle.std.specs.List.{range_with_len}
 use Rattle.cn_table.specs.OtherEntry.{IsEntry, with_entry}
 use Rattle.cn_table.specs.TypeTable.{TypeTable, transition}
 use Rattle.cn_changes.specs.declared.change.Change.{Change}
-use Rattle.cn_changes.specs.declared.target.Target.{Target}
+use Rattle.cn_changes.specs.declared.targets.Target.{Target}
 
 -- an entry, by its operation and its state, and a next state for it
 abbrev pub target : ℕ → ℕ → ℕ → Target

@@ -1,5 +1,5 @@
 -- Two changes at once.
-use Rattle.std.specs.Prelude.{◌≡◌, ◌↔◌, ℕ, ◌<◌, ◌==◌, ◌&&◌, ◌||◌, Bool, nat_lt, List, [], ◌∷◌, length}
+use Rattle.std.specs.Prelude.{◌≡◌, ◌↔◌, ◌<◌, ◌==◌, ◌&&◌, ◌||◌, Bool, nat_lt, List, [], ◌∷◌, length}
 use Rattle.std.specs.Prelude.{flat_map, map, take, All, IsTrue, if◌then◌else◌}
 use Rattle.cn_table.specs.TypeTable.{TypeTable}
 use Rattle.cn_unread_number.specs.declared.bounds.NumberBounds.{NumberBounds}

@@ -9,7 +9,7 @@ use Rattle.cn_changes.specs.Told.{agreed}
 use Rattle.cn_changes.specs.declared.greatest.TheConstants.{GREATEST_RANK}
 use Rattle.cn_changes.specs.declared.numbers.NextNumbers.{NextNumbers}
 use Rattle.cn_changes.specs.declared.raises.Raise.{Raise}
-use Rattle.cn_changes.specs.declared.target.Target.{Target}
+use Rattle.cn_changes.specs.declared.targets.Target.{Target}
 
 -- the number is raised to this one, with the response, or with any
 abbrev pub raise_to : NumberBounds → Target → Option Response → NumberBounds → List Raise

@@ -2,7 +2,7 @@
 ghost use Rattle.std.specs.Prelude.{◌≡◌, ◌++◌, All, IfOk, OnOk, flat_map};
 ghost use Rattle.cn_changes.specs.Changes.{IsChange, IsTarget, change_if_other, changes_of, changes_to, is_other, with_change};
 
-use crate::target::{Target, targets_of};
+use crate::targets::{Target, targets_of};
 use cn_table::{Response, Table};
 use std::alloc::{AllocError, Global};
 

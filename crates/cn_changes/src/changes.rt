@@ -7,7 +7,7 @@ ghost use Rattle.cn_changes.specs.Told.{AreAllNumbers, AreNextNumbers};
 
 use crate::kind::{NumberKind, number_of};
 use crate::numbers::{NextNumbers, next_numbers};
-use crate::target::{Target, targets_of};
+use crate::targets::{Target, targets_of};
 use cn_table::Table;
 use cn_unread_number::NumberBounds;
 use rayon::prelude::*;

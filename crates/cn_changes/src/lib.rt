@@ -27,7 +27,7 @@ mod numbers;
 mod pairs;
 mod raises;
 mod rests;
-mod target;
+mod targets;
 #[cfg(test)]
 mod tests;
 
@@ -39,4 +39,4 @@ pub use numbers::{ChangeNumber, NextNumbers, agreed, number_with};
 pub use pairs::{ChangePair, MOST_PAIRS, PairNumber, PairNumbers, pair_numbers};
 pub use raises::{Raise, raises_of};
 pub use rests::rests_on;
-pub use target::Target;
+pub use targets::Target;

@@ -9,7 +9,7 @@ ghost use Rattle.cn_changes.specs.Told.{AreNextNumbers, AreNumbersOf, agreed};
 use crate::change::{Change, changes_to};
 use crate::kind::{NumberKind, number_of};
 use crate::less::is_same;
-use crate::target::Target;
+use crate::targets::Target;
 use cn_table::Table;
 use cn_unread_number::NumberBounds;
 use std::alloc::{AllocError, Global};

@@ -5,7 +5,7 @@ ghost use Rattle.cn_changes.specs.Raises.{raise_to, raises_in, raises_in_order, 
 use crate::greatest::{GREATEST_RANK, Numbered, greatest_first};
 use crate::less::is_less;
 use crate::numbers::{NextNumbers, agreed};
-use crate::target::Target;
+use crate::targets::Target;
 use cn_table::Response;
 use cn_unread_number::NumberBounds;
 use std::alloc::{AllocError, Global};

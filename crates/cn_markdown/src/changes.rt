@@ -12,7 +12,7 @@ use cn_table::{Operation, State, Table};
 use std::alloc::{AllocError, Global};
 
 /// What stands on both sides of an entry on which the number rests.
-fn bold(rests: bool) -> &'static str
+fn bold<'a>(rests: bool) -> &'a str
     ensures { result.now ≡ bold rests }
 {
     if rests { "**" } else { "" }

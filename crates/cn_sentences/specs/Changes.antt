@@ -15,7 +15,7 @@ use Rattle.cn_changes.specs.declared.pairs.PairNumber.{PairNumber}
 use Rattle.cn_changes.specs.declared.pairs.PairNumbers.{PairNumbers}
 use Rattle.cn_changes.specs.declared.pairs.TheConstants.{MOST_PAIRS}
 use Rattle.cn_changes.specs.declared.raises.Raise.{Raise}
-use Rattle.cn_changes.specs.declared.target.Target.{Target}
+use Rattle.cn_changes.specs.declared.targets.Target.{Target}
 
 -- the words for the number that is told
 abbrev pub kind_words : NumberKind → List ℕ

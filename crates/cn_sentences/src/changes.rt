@@ -45,7 +45,7 @@ fn response_name(table: &Table, response: Response) -> &str
 }
 
 /// The words for the number that is told.
-fn kind_words(kind: NumberKind) -> &'static str
+fn kind_words<'a>(kind: NumberKind) -> &'a str
     ensures { result.now ≡ kind_words kind }
 {
     match kind {
@@ -71,8 +71,8 @@ pub fn push_changes_head(
         ≡ string_bytes text.old ++ changes_head table.now changes.now) }
 {
     let number = format!(in alloc; "{}", changes.number)?;
-    let kind = kind_words(changes.kind);
-    push_pieces(text, &[table.name(), ": ", kind, number.as_str(), "\n"])
+    push_pieces(text, &[table.name(), ": ", kind_words(changes.kind)])?;
+    push_pieces(text, &[number.as_str(), "\n"])
 }
 
 #[tactic(auto, unfolding(crate::specs::Changes::target_words))]

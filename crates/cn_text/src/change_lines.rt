@@ -13,7 +13,7 @@ use cn_table::{Operation, State, Table};
 use std::alloc::{AllocError, Global};
 
 /// The mark of an entry on which the number rests.
-fn mark(rests: bool) -> &'static str
+fn mark<'a>(rests: bool) -> &'a str
     ensures { result.now ≡ mark rests }
 {
     if rests { "*" } else { "" }

@@ -1,6 +1,6 @@
-use Rattle.std.proofs.Common.{◌∙◌, All, List, ap, flat_map, subst, sym}
-use Rattle.cn_changes.specs.Changes.{IsTarget, changes_to}
-use Rattle.cn_changes.specs.declared.target.Target.{Target}
+use Rattle.std.proofs.Common.{◌∙◌, All, List, subst, sym}
+use Rattle.cn_changes.specs.Changes.{IsTarget}
+use Rattle.cn_changes.specs.declared.targets.Target.{Target}
 use Rattle.cn_changes.proofs.Known.{targets_known}
 use Rattle.cn_changes.proofs.change.all_changes.Goals as goal
 

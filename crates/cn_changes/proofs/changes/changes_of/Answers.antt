@@ -2,7 +2,7 @@ use Rattle.std.proofs.Common.{◌∙◌, All, List, subst, sym}
 use Rattle.cn_changes.specs.Changes.{IsTarget}
 use Rattle.cn_changes.specs.Told.{AreNextNumbers}
 use Rattle.cn_changes.specs.declared.numbers.NextNumbers.{NextNumbers}
-use Rattle.cn_changes.specs.declared.target.Target.{Target}
+use Rattle.cn_changes.specs.declared.targets.Target.{Target}
 use Rattle.cn_changes.proofs.Known.{targets_known}
 use Rattle.cn_changes.proofs.Zipped.{all_of, listed_of}
 use Rattle.cn_changes.proofs.changes.changes_of.Goals as goal

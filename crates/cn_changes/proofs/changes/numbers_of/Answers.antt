@@ -6,7 +6,7 @@ use Rattle.rayon.proofs.ToStd.{slice-AllZip}
 use Rattle.cn_stocks.proofs.Decisions.{collected}
 use Rattle.cn_changes.specs.Told.{AreNextNumbers}
 use Rattle.cn_changes.specs.declared.numbers.NextNumbers.{NextNumbers}
-use Rattle.cn_changes.specs.declared.target.Target.{Target}
+use Rattle.cn_changes.specs.declared.targets.Target.{Target}
 use Rattle.cn_changes.proofs.changes.numbers_of.Goals as goal
 
 pub returns : goal.returns

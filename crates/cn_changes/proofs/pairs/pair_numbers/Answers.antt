@@ -1,4 +1,4 @@
-use Rattle.std.proofs.Common.{◌≡◌, ◌+◌, ◌∙◌, All, List, ap, arith, flat_map, length, subst, sym, take}
+use Rattle.std.proofs.Common.{◌+◌, ◌∙◌, All, List, ap, arith, flat_map, length, subst, sym, take}
 use Rattle.std.proofs.lemmas.List.{length-take}
 use Rattle.cn_changes.specs.Greatest.{greatest_first}
 use Rattle.cn_changes.specs.Kinds.{HasNumberOf}

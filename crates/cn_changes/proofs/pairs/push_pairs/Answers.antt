@@ -1,4 +1,4 @@
-use Rattle.std.proofs.Common.{◌≡◌, ◌≤◌, ◌+◌, ◌++◌, ◌∙◌, ◌∷◌, [], List, ap, append-nil, append_assoc, arith, drop, false, flat_map, length, length-append, refl, sym, take, true, Bool}
+use Rattle.std.proofs.Common.{◌≡◌, ◌≤◌, ◌+◌, ◌++◌, ◌∙◌, List, ap, append-nil, append_assoc, arith, drop, false, flat_map, length, refl, sym, take, true, Bool}
 use Rattle.cn_changes.specs.Pairs.{is_before, pair_with}
 use Rattle.cn_changes.specs.declared.change.Change.{Change}
 use Rattle.cn_changes.specs.declared.pairs.ChangePair.{ChangePair}
