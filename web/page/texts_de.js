@@ -379,7 +379,7 @@ Cnum.languages.de.texts = {
     show_table: 'Diese Tabelle zeigen',
     each_entry: 'Mit je einem anderen Eintrag',
     entries_head: 'Die Zahl mit einem anderen Eintrag',
-    entry_hint: 'Ein Eintrag nennt, wenn er gewählt ist, die Zahl mit jedem anderen Zustand danach und jeder anderen Antwort. Eine Änderung öffnet sich neben dieser Tabelle; Rückgängig nimmt sie zurück.',
+    entry_hint: 'Ein Eintrag nennt, wenn er gewählt ist, die Zahl mit jedem anderen Zustand danach und jeder anderen Antwort. Eine Änderung öffnet sich neben dieser Tabelle; Rückgängig oder die Zurück-Taste des Browsers nimmt sie zurück.',
     entry_text: '{response} → {next}',
     entry_of: '{operation} in {state}: {response} → {next}',
     entry_rests: '{operation} in {state}: {response} → {next}; die Zahl beruht darauf',

@@ -380,7 +380,7 @@ Cnum.languages.en.texts = {
     show_table: 'Show this table',
     each_entry: 'With each entry changed',
     entries_head: 'The number with one entry changed',
-    entry_hint: 'Choose an entry: it tells the number with each other next state and response there. A change opens beside this table, and Undo takes it back.',
+    entry_hint: 'Choose an entry: it tells the number with each other next state and response there. A change opens beside this table; Undo or the back button of the browser takes it back.',
     entry_text: '{response} → {next}',
     entry_of: '{operation} in {state}: {response} → {next}',
     entry_rests: '{operation} in {state}: {response} → {next}; the number rests on it',
