@@ -537,6 +537,16 @@ def comparisons(use):
     use.value("document.querySelectorAll('#comparison tbody button')[1].click()")
     whole = use.until("!document.body.classList.contains('one-part') && document.querySelectorAll('#why .pairs').length > 0", 20)
     yield "a cell opens why of that pair", whole and use.has_number(cells[1]) and use.count("#grid tbody tr") == 2, use.text("number")
+    use.open("#example=catalogue/swap_3&crashes=yes")
+    use.value(press % "Without each operation")
+    use.until("document.querySelectorAll('#comparison tbody tr').length === 4")
+    sets = [["none", use.table()], *use.value("Cnum.withoutEach(Cnum.page.text).map(it => [it.operation, it.text])")]
+    lines = [[name, called(["classify", "--recoverable", "-"], text)[0].decode().partition(", recoverable ")[2].strip()] for name, text in sets]
+    yield "recoverable numbers, if processes come back", use.value(CELL_TEXTS) == lines, (use.value(CELL_TEXTS), lines)
+    use.value(press % "Each pair of operations")
+    use.until("document.querySelectorAll('#comparison tbody button').length === 6")
+    cells = use.texts("#comparison tbody button")
+    yield "also of each pair", [cells[4], cells[3], cells[1]] == [it[1] for it in lines[1:]], (cells, lines)
     use.open("#example=catalogue/queue_2")
     use.value(press % "Without each operation")
     use.until("document.querySelectorAll('#comparison tbody button').length === 3")
@@ -623,7 +633,7 @@ OPENED = """[...document.querySelectorAll('.opened tbody tr')].map(row =>
     [row.cells[0].textContent, [...row.querySelectorAll('button')].map(it => it.textContent)])"""
 # Types, each with the part of a link that chooses a number, the option that asks for this number, and what the page says of the choice.
 MAPS = [(name, "", [], "For objects that can be read.") for name in ("queue_1", "window_2", "saturating_add_1_2", "cas_3", "semaphore_3", "swap_3")]
-MAPS += [("semaphore_3", "&crashes=yes", ["--recoverable"], "For objects that can be read, if processes may crash and come back.")]
+MAPS += [("shot_3", "&crashes=yes", ["--recoverable"], "For objects that can be read, if processes may crash and come back.")]
 MAPS += [(name, "&reads=no", ["--without-read"], "Without reads: processes have the operations of the table alone.") for name in ("queue_1", "window_2")]
 MAPS += [("queue_1", "&reads=no&crashes=yes", ["--without-read"], "Without reads: processes have the operations of the table alone.")]
 MOST_CHANGES = 40  # in a list, before the reader asks for more

@@ -17,8 +17,8 @@ var Cnum = globalThis.Cnum || {};
         constructor(text, told, { make, two }) {
             Object.assign(this, { text, told, make, two, pressed: null });
             this.entries = Cnum.entriesOf(text, told);
-            this.opened = element('div', { class: 'opened', 'aria-live': 'polite' });
-            this.ofTwo = element('div', { 'aria-live': 'polite' });
+            this.opened = element('div', { class: 'opened' });
+            this.ofTwo = element('div');
             this.place = element('div', {}, element('h3', {}, say('entries_head')), ...this.summary(), this.grid(), this.opened, ...this.raising(), this.ofTwo);
         }
 
