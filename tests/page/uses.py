@@ -848,7 +848,7 @@ def maps_for_all(use):
             yield f"the map on a phone{lang}, {mode}", use.count(".opened table") == 1 and width <= PHONE["width"], width
             faint = [it for it in use.value(CONTRAST) if it[0] < 4.5]
             yield f"its contrast{lang}, {mode}", faint == [], faint
-            tints = use.value("['.rests', '.entries button:not(.rests)'].map(it => getComputedStyle(document.querySelector(it).closest('td')).backgroundColor)")
+            tints = use.value("['.rests', 'div:not(.rests)'].map(it => getComputedStyle(document.querySelector(`.entries td > ${it}`)).backgroundColor)")
             yield f"its tint{lang}, {mode}", tints[0] != tints[1], tints
     german = use.texts("#comparison p")[0], use.texts(RAISING)[0]
     well = german[0].startswith("Die Zahl ist 2. Sie beruht auf 2 der 8 Einträge") and german[1] == "unendlich, wenn up in 0 zu 0 führt"
@@ -857,7 +857,7 @@ def maps_for_all(use):
     use.open("#example=catalogue/semaphore_3&screen=change")
     use.value(PRESS_COMPARISON % EACH_ENTRY)
     use.until(MAPPED)
-    name = use.value("document.querySelector('.entries .rests').getAttribute('aria-label')")
+    name = use.value("document.querySelector('.rests button').getAttribute('aria-label')")
     yield "an entry says that the number rests on it", name == "down in 0: no → 0; the number rests on it", name
     entries = use.value(ENTRIES)
     use.call("Emulation.setEmulatedMedia", media="print", features=[])

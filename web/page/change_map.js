@@ -49,8 +49,8 @@ var Cnum = globalThis.Cnum || {};
         cell(entry) {
             const text = say('entry_text', { response: entry.response, next: `${entry.next}${entry.rests ? '*' : ''}` });
             const about = say(entry.rests ? 'entry_rests' : 'entry_of', entry);
-            const made = button(text, () => this.open(entry, made), { class: entry.rests ? 'rests' : '', 'aria-pressed': 'false', 'aria-label': about, title: about });
-            return element('span', {}, made, onPaper(text));
+            const made = button(text, () => this.open(entry, made), { 'aria-pressed': 'false', 'aria-label': about, title: about });
+            return element('div', { class: entry.rests ? 'rests' : '' }, made, onPaper(text));
         }
 
         // The numbers with another entry in this place; the same button takes them away.
