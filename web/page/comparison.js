@@ -98,22 +98,27 @@ var Cnum = globalThis.Cnum || {};
         // The present table, or an empty text if it has flaws. If it is the one of the last map of changes, as behind an undo, the map
         // is shown again.
         show(text) {
+            const compared = this.begin(text);
+            if (text && this.isMapped()) this.showMap();
+            return compared;
+        }
+
+        // Takes this table, and shows nothing of it but the one that was kept beside it.
+        begin(text) {
             this.text = text;
             this.repeat = null;
             this.round++;
             this.withoutButton.disabled = this.pairsButton.disabled = Cnum.withoutEach(text).length === 0;
             this.keepButton.disabled = this.changesButton.disabled = !text;
             this.answer.replaceChildren();
-            const compared = this.compare();
-            if (text && this.isMapped()) this.showMap();
-            return compared;
+            return this.compare();
         }
 
         // Shows the same comparison for the other choice of numbers.
         again() {
             const { repeat, text } = this;
             this.breakOff();
-            this.show(text);
+            this.begin(text);
             if (repeat) repeat();
         }
 
@@ -175,17 +180,15 @@ var Cnum = globalThis.Cnum || {};
             this.answer.replaceChildren(element('h3', {}, say('pairs_head')), wide(say('pairs_head'), table), ...smallest(told));
         }
 
-        // The number with each other entry, as a map. What was told of this table is not asked for again.
+        // The number with each other entry, as a map. If the last map is of this table, it is not asked for again.
         async changeEntries() {
             const { text } = this;
             const kind = this.kind();
             this.repeat = () => this.changeEntries();
-            if (!this.isMapped()) {
-                const told = await this.answerOf(() => this.changes(text, false));
-                if (!told) return;
-                const two = () => this.answerOf(() => this.changes(text, true));
-                this.map = { text, kind, shown: new Cnum.ChangeMap(text, told, { make: changed => this.open(changed), two }) };
-            }
+            const told = await this.answerOf(() => this.isMapped() || this.changes(text, false));
+            if (!told) return;
+            const two = () => this.answerOf(() => this.changes(text, true));
+            if (!this.isMapped()) this.map = { text, kind, shown: new Cnum.ChangeMap(text, told, { make: changed => this.open(changed), two }) };
             this.showMap();
         }
 
