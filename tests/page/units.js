@@ -863,6 +863,12 @@ next = ["off", "on"]
         assert.deepEqual([operation, state, response, next], ['set', 'on', 'no', 'on']);
     });
 
+    it('are counted', () => {
+        assert.deepEqual([Cnum.countChanges(TABLE, false), Cnum.countChanges(TABLE, true)], [12, 54]);
+        const { text } = Cnum.examples.flatMap(it => it.types).find(it => it.path === 'catalogue/queue_2');
+        assert.equal(Cnum.countChanges(text, true), 50000);
+    });
+
     it('that raise the number stand with the greatest first', () => {
         assert.deepEqual(raising.map(Cnum.changeInWords), [
             'infinite if look in off leads to off and answers no',

@@ -819,7 +819,7 @@ def taken_changes(use):
     waits = "document.querySelector('#comparison > .buttons + div').checkVisibility()"
     use.value("Cnum.page.screens.open('change')")
     use.value(PRESS_COMPARISON % EACH_ENTRY)
-    yield "a long search says for how long it runs", use.until(f"{waits} && /runs for [1-9]/.test(document.getElementById('comparison').textContent)", 20), ""
+    yield "a long search says for how long it runs", use.until(f"{waits} && /over 16256 changed tables runs for [1-9]/.test(document.getElementById('comparison').textContent)", 20), ""
     use.value(PRESS_COMPARISON % "Break it off")
     yield "it is broken off", use.until(f"!{waits}", 5) and use.count(".entries") == 0, ""
     use.value(PRESS_COMPARISON % EACH_ENTRY)

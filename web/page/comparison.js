@@ -123,14 +123,14 @@ var Cnum = globalThis.Cnum || {};
         }
 
         // What is asked for, or null if another table has come since. If it takes long, that is shown, and for how long.
-        async told(asked) {
+        async told(asked, running = 'running', words = {}) {
             const { round } = this;
             const began = performance.now();
             this.running++;
             const tick = setInterval(() => {
                 const passed = performance.now() - began;
                 if (passed < BEFORE_WAITING) return;
-                this.waited.textContent = say('running', { seconds: (passed / 1000).toFixed(1) });
+                this.waited.textContent = say(running, { ...words, seconds: (passed / 1000).toFixed(1) });
                 this.waiting.hidden = false;
             }, TICK);
             const answer = await asked;
@@ -140,12 +140,16 @@ var Cnum = globalThis.Cnum || {};
             return round === this.round ? answer : null;
         }
 
-        // The same for what is shown in the place of answers: null too if something else has been asked for there since, which
-        // breaks it off.
-        async answerOf(ask) {
-            const turn = ++this.turn;
+        // Ends what was asked for in the place of answers, as something else comes there. The number of that.
+        nextTurn() {
             this.breakOffAnswer();
-            const told = await this.told(ask());
+            return ++this.turn;
+        }
+
+        // What is asked for in the place of answers, or null if another table or something else has come since.
+        async answerOf(ask, ...running) {
+            const turn = this.nextTurn();
+            const told = await this.told(ask(), ...running);
             return turn === this.turn ? told : null;
         }
 
@@ -184,11 +188,15 @@ var Cnum = globalThis.Cnum || {};
         async changeEntries() {
             const { text } = this;
             const kind = this.kind();
+            const ask = ofTwo => this.answerOf(() => this.changes(text, ofTwo), 'running_changes', { count: Cnum.countChanges(text, ofTwo) });
             this.repeat = () => this.changeEntries();
-            const told = await this.answerOf(() => this.isMapped() || this.changes(text, false));
-            if (!told) return;
-            const two = () => this.answerOf(() => this.changes(text, true));
-            if (!this.isMapped()) this.map = { text, kind, shown: new Cnum.ChangeMap(text, told, { make: changed => this.open(changed), two }) };
+            if (this.isMapped()) {
+                this.nextTurn();
+            } else {
+                const told = await ask(false);
+                if (!told) return;
+                this.map = { text, kind, shown: new Cnum.ChangeMap(text, told, { make: changed => this.open(changed), two: () => ask(true) }) };
+            }
             this.showMap();
         }
 

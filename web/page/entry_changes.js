@@ -7,6 +7,7 @@ var Cnum = globalThis.Cnum || {};
 
     const { edits, say } = Cnum;
     const GREATEST = 256; // the place of an infinite number among all
+    const MOST_PAIRS = 50000; // of changes, that the program tries
 
     const rankOf = number => Math.min(Cnum.leastOf(number), GREATEST);
 
@@ -31,6 +32,14 @@ var Cnum = globalThis.Cnum || {};
             const its = changes.filter(it => it.operation === operation && it.state === state).flatMap(ofNext);
             return { operation, state, response, next, rests: its.some(it => Cnum.isLess(it.number, number)), changes: its };
         }));
+    };
+
+    // How many changed tables the program tries, with one entry changed or with two.
+    Cnum.countChanges = function (text, ofTwo) {
+        const table = new Cnum.TableText(text);
+        const [states, responses] = [table.items('states').length, table.items('responses').length];
+        const [entries, each] = [table.operations.length * states, states * responses - 1];
+        return ofTwo ? Math.min(MOST_PAIRS, (entries * (entries - 1) * each ** 2) / 2) : entries * each;
     };
 
     // The changes that raise the number, the greatest number first.

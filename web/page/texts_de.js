@@ -377,6 +377,7 @@ Cnum.languages.de.texts = {
     number_column: 'Zahl',
     show_head: 'Tabelle',
     show_table: 'Diese Tabelle zeigen',
+    running_changes: 'Die Suche über {count} geänderte Tabellen läuft seit {seconds} s.',
     each_entry: 'Mit je einem anderen Eintrag',
     entries_head: 'Die Zahl mit einem anderen Eintrag',
     entry_hint: 'Ein Eintrag nennt, wenn er gewählt ist, die Zahl mit jedem anderen Zustand danach und jeder anderen Antwort. Eine Änderung öffnet sich neben dieser Tabelle; Rückgängig oder die Zurück-Taste des Browsers nimmt sie zurück.',

@@ -378,6 +378,7 @@ Cnum.languages.en.texts = {
     number_column: 'Number',
     show_head: 'Table',
     show_table: 'Show this table',
+    running_changes: 'The search over {count} changed tables runs for {seconds} s.',
     each_entry: 'With each entry changed',
     entries_head: 'The number with one entry changed',
     entry_hint: 'Choose an entry: it tells the number with each other next state and response there. A change opens beside this table; Undo or the back button of the browser takes it back.',
