@@ -11,11 +11,13 @@ import pathlib
 import re
 import subprocess
 import tempfile
+import tomllib
 
 from calls import PROGRAM, TOP
 from rows import rows
 
 LONGEST = 60
+MOST_CHANGES = 100  # of one entry of a table whose `changes` are compared: those of the greatest tables take hours
 MOST_CERTIFICATE = 2_000_000
 PATHS = [path for folder in ("types", "tests/types", "catalogue") for path in sorted((TOP / folder).glob("*.toml"))]
 TABLES = {str(path.relative_to(TOP).with_suffix("")): path.read_bytes() for path in PATHS}
@@ -43,6 +45,11 @@ def hostile_certificates():
     made = [b"", b"{", b"[" * deep, b'{"a":' * 60 + b"1" + b"}" * 60, b'{"collisions":' + b"[" * 127, b'{"a":' * deep, b"\xff", b"\xef\xbb\xbf{}"]
     made += [b'"' + b"\\" * (deep - 1), b"1" * deep, b"1e999999999", b" " * 16777217]
     return made + [(TOP / "types/test_and_set_at_3.json").read_bytes()] + files("tests/certificates", "tests/numbers", "tests/refused")
+
+
+def count_changes(table):
+    it = tomllib.loads(table.decode())
+    return len(it["operation"]) * len(it["states"]) * (len(it["states"]) * len(it["responses"]) - 1)
 
 
 def files(*folders):
@@ -93,7 +100,9 @@ class Jobs:
         self.run(["classify", "--limit", "5", "-"], table)
         for form in ("text", "json", "markdown"):
             self.run(["pairs", "--as", form, "-"], table)
-            self.run(["changes", "--as", form, "-"], table)
+        if count_changes(table) <= MOST_CHANGES:
+            for options in (["--as", "text"], ["--as", "json"], ["--as", "markdown"], ["--recoverable", "--as", "json"], ["--without-read", "--as", "json"]):
+                self.run(["changes", *options, "-"], table)
         for form in ("text", "json", "markdown"):
             self.run(["classify", "--recoverable", "--as", form, "-"], table)
             self.run(["classify", "--without-read", "--as", form, "-"], table)

@@ -6,7 +6,7 @@ const { describe, it } = require('node:test');
 const vm = require('node:vm');
 
 const WEB = path.join(__dirname, '../../web');
-const PARTS = ['texts_en', 'texts_de', 'texts', 'elements', 'answers', 'plans', 'run', 'lives', 'link', 'table_text', 'table_edits', 'lasting_table', 'flaw_places', 'flaw_texts', 'notes'];
+const PARTS = ['texts_en', 'texts_de', 'texts', 'elements', 'answers', 'plans', 'run', 'lives', 'link', 'table_text', 'table_edits', 'entry_changes', 'lasting_table', 'flaw_places', 'flaw_texts', 'notes'];
 PARTS.push('past', 'example_search', 'comparison', 'schedules', 'space_time', 'failing_run', 'tournament', 'dot', 'points', 'layout', 'large', 'sizes');
 PARTS.push('reason_parts', 'explanation', 'picture', 'two_runs', 'unread_explanation', 'stock_explanation');
 
@@ -98,7 +98,7 @@ describe('links', () => {
         ['#inputs=1,', 'a process proposes “” in it, and that is no number.'],
         ['#inputs=18446744073709551616', 'a process proposes “18446744073709551616” in it, and that is no number.'],
         ['#plan=other', 'it says “plan=other”, and the page knows only “plan=shortest”, “plan=certificate” and “plan=without_reads”.'],
-        ['#view=all', 'it shows the part “all” alone, and the page has number, why, states, run, pairs, exercise and solution.'],
+        ['#view=all', 'it shows the part “all” alone, and the page has number, why, states, run, pairs, changes, exercise and solution.'],
         ['#screen=all', 'it shows the screen “all”, and the page has why, change, run, print and table.'],
         ['#try=no', 'it says “try=no”, and the page knows only “try=yes”.'],
         ['#exmaple=types/idle', 'it says “exmaple”, which the page does not know.'],
@@ -812,6 +812,87 @@ describe('comparisons', () => {
         assert.equal(told(3, 1, 2, 2, 1, 2, 2).smallest, null);
         const open = { at_least: 2, at_most: 3 };
         assert.equal(told(open, 1, { ...open }, 1, 1, 1, 1).smallest, null);
+    });
+});
+
+describe('changes of entries', () => {
+    // Two operations, two states and two responses: it is 2, and rests on what `set` does in `off`.
+    const TABLE = `name = "lamp" # of a desk
+states = ["off", "on"]
+responses = ["ok", "no"]
+[[operation]]
+name = "set"
+response = ["ok", 'no']
+next = ["on", 'on']
+[[operation]]
+name = "look"
+response = ["ok", "no"]
+next = ["off", "on"]
+`;
+    const told = (operation, state, next, number, responses = []) => ({ next, number, operation, responses, state });
+    const each = numbers => numbers.map((number, index) => ({ number, response: ['ok', 'no'][index] }));
+    const TOLD = {
+        number: 2,
+        changes: [
+            told('set', 'off', 'off', null, each([2, 1])),
+            told('set', 'off', 'on', 1),
+            told('set', 'on', 'off', 3),
+            told('set', 'on', 'on', 2),
+            told('look', 'off', 'off', 'infinite'),
+            told('look', 'off', 'on', null, each(['infinite', { at_least: 3 }])),
+            told('look', 'on', 'off', { at_least: 1, at_most: 2 }),
+            told('look', 'on', 'on', { at_least: 2 }),
+        ],
+    };
+    const entries = Cnum.entriesOf(TABLE, TOLD);
+    const raising = Cnum.raisingOf(entries, TOLD.number);
+
+    it('are less or greater only where that is certain', () => {
+        const [range, least] = [{ at_least: 2, at_most: 4 }, { at_least: 3 }];
+        for (const [a, b] of [[1, 2], [2, 'infinite'], [1, range], [range, 5], [2, least], [range, 'infinite']]) {
+            assert.ok(Cnum.isLess(a, b) && !Cnum.isLess(b, a), `${JSON.stringify([a, b])}`);
+        }
+        for (const [a, b] of [[2, 2], ['infinite', 'infinite'], [2, range], [4, range], [3, least], [least, 'infinite'], [range, least]]) {
+            assert.ok(!Cnum.isLess(a, b) && !Cnum.isLess(b, a), `${JSON.stringify([a, b])}`);
+        }
+    });
+
+    it('tell on which entries the number rests', () => {
+        assert.deepEqual(entries.map(row => row.map(it => it.rests)), [[true, false], [false, false]]);
+        const { operation, state, response, next } = entries[0][1];
+        assert.deepEqual([operation, state, response, next], ['set', 'on', 'no', 'on']);
+    });
+
+    it('are counted', () => {
+        assert.deepEqual([Cnum.countChanges(TABLE, false), Cnum.countChanges(TABLE, true)], [12, 54]);
+        const { text } = Cnum.examples.flatMap(it => it.types).find(it => it.path === 'catalogue/queue_2');
+        assert.equal(Cnum.countChanges(text, true), 50000);
+    });
+
+    it('that raise the number stand with the greatest first', () => {
+        assert.deepEqual(raising.map(Cnum.changeInWords), [
+            'infinite if look in off leads to off and answers no',
+            'infinite if look in off leads to on and answers ok',
+            '3 if set in on leads to off',
+            'at least 3, no upper bound found if look in off leads to on and answers no',
+        ]);
+    });
+
+    it('name the response where there is one other', () => {
+        assert.deepEqual(entries[0][0].changes.map(it => [it.next, it.response, it.isSame]), [['off', 'ok', false], ['off', 'no', false], ['on', 'no', true]]);
+        const more = Cnum.entriesOf(Cnum.edits.addResponse(new Cnum.TableText(TABLE)), TOLD);
+        assert.equal(Cnum.changeInWords(more[1][0].changes[0]), 'infinite if look in off leads to off and answers otherwise');
+    });
+
+    it('are made in the text, and nothing else is', () => {
+        const made = change => Cnum.withChanges(TABLE, [change]);
+        assert.equal(made(raising[0]), TABLE.replace('name = "look"\nresponse = ["ok"', 'name = "look"\nresponse = ["no"'));
+        assert.equal(made(raising[1]), TABLE.replace('next = ["off"', 'next = ["on"'));
+        assert.equal(made(raising[2]), TABLE.replace("'on'", '"off"'));
+        assert.equal(made({ ...raising[2], next: 'on' }), TABLE.replace("'no'", '"ok"'));
+        const two = [{ operation: 'set', state: 'on', next: 'off', response: 'ok' }, { operation: 'look', state: 'on', next: 'off', response: 'no' }];
+        assert.equal(Cnum.withChanges(TABLE, two), TABLE.replace("'on'", '"off"').replace("'no'", '"ok"').replace('next = ["off", "on"]', 'next = ["off", "off"]'));
+        assert.equal(Cnum.pairInWords({ first: two[0], second: two[1], number: 4 }), '4 if set in on leads to off and answers ok, and look in on leads to off and answers no');
     });
 });
 

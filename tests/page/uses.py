@@ -537,6 +537,16 @@ def comparisons(use):
     use.value("document.querySelectorAll('#comparison tbody button')[1].click()")
     whole = use.until("!document.body.classList.contains('one-part') && document.querySelectorAll('#why .pairs').length > 0", 20)
     yield "a cell opens why of that pair", whole and use.has_number(cells[1]) and use.count("#grid tbody tr") == 2, use.text("number")
+    use.open("#example=catalogue/swap_3&crashes=yes")
+    use.value(press % "Without each operation")
+    use.until("document.querySelectorAll('#comparison tbody tr').length === 4")
+    sets = [["none", use.table()], *use.value("Cnum.withoutEach(Cnum.page.text).map(it => [it.operation, it.text])")]
+    lines = [[name, called(["classify", "--recoverable", "-"], text)[0].decode().partition(", recoverable ")[2].strip()] for name, text in sets]
+    yield "recoverable numbers, if processes come back", use.value(CELL_TEXTS) == lines, (use.value(CELL_TEXTS), lines)
+    use.value(press % "Each pair of operations")
+    use.until("document.querySelectorAll('#comparison tbody button').length === 6")
+    cells = use.texts("#comparison tbody button")
+    yield "also of each pair", [cells[4], cells[3], cells[1]] == [it[1] for it in lines[1:]], (cells, lines)
     use.open("#example=catalogue/queue_2")
     use.value(press % "Without each operation")
     use.until("document.querySelectorAll('#comparison tbody button').length === 3")
@@ -611,6 +621,250 @@ def unread(use):
     yield "beside processes that come back", said == ("", 2, "#example=types/three_shot&crashes=yes&reads=no&inputs=10,20&run=0,1"), said
     use.open("#example=types/test_and_set&reads=yes")
     yield "another choice is refused", "reads=yes" in use.text("trouble") and use.is_hidden("content"), use.text("trouble")
+
+
+EACH_ENTRY = "With each entry changed"
+TWO_CHANGES = "Try two changes at once"
+MAPPED = "document.querySelectorAll('.entries').length === 1"
+# The map of changes: its entries, what raises the number, and what is told of the entry that is open.
+ENTRIES = "[...document.querySelectorAll('.entries tbody tr')].map(row => [...row.querySelectorAll('button')].map(it => it.textContent))"
+RAISING = "#comparison li button"
+OPENED = """[...document.querySelectorAll('.opened tbody tr')].map(row =>
+    [row.cells[0].textContent, [...row.querySelectorAll('button')].map(it => it.textContent)])"""
+# Types, each with the part of a link that chooses a number, the option that asks for this number, and what the page says of the choice.
+MAPS = [(name, "", [], "For objects that can be read.") for name in ("queue_1", "window_2", "saturating_add_1_2", "cas_3", "semaphore_3", "swap_3")]
+MAPS += [("shot_3", "&crashes=yes", ["--recoverable"], "For objects that can be read, if processes may crash and come back.")]
+MAPS += [(name, "&reads=no", ["--without-read"], "Without reads: processes have the operations of the table alone.") for name in ("queue_1", "window_2")]
+MAPS += [("queue_1", "&reads=no&crashes=yes", ["--without-read"], "Without reads: processes have the operations of the table alone.")]
+MOST_CHANGES = 40  # in a list, before the reader asks for more
+
+
+def bounds_of(number):
+    """The least and the greatest that a number can be."""
+    if number == "infinite":
+        return math.inf, math.inf
+    return (number["at_least"], number.get("at_most", math.inf)) if isinstance(number, dict) else (number, number)
+
+
+def words_of(number):
+    least, most = bounds_of(number)
+    if not isinstance(number, dict):
+        return str(number)
+    return f"at least {least}, at most {most}, not decided" if most < math.inf else f"at least {least}, no upper bound found"
+
+
+class Changes:
+    """What the program tells of the entries of a table, as the page has to show it."""
+
+    def __init__(self, table, options):
+        told = json.loads(called(["changes", *options, "--as", "json", "-"], table)[0])
+        self.table, self.number, self.changes = Table(table), told["number"], told["changes"]
+
+    def entries(self):
+        return [(row, state) for row in range(len(self.table.operations)) for state in range(len(self.table.states))]
+
+    def nexts(self, row, state):
+        """The next states of an entry, each with the numbers there; a number has a response if others have another number."""
+        table = self.table
+        names = table.operations[row], table.states[state]
+        response, present = table.act(row, state)
+        others = [it for it in table.responses if it != table.responses[response]]
+        for it in self.changes:
+            if (it["operation"], it["state"]) == names:
+                is_present = it["next"] == table.states[present]
+                only = others[0] if is_present and len(others) == 1 else None
+                agreed = [(it["number"], only)] if it["number"] is not None else []
+                yield it["next"], is_present, agreed + [(one["number"], one["response"]) for one in it["responses"]]
+
+    def sign(self, number):
+        (least, most), (first, last) = bounds_of(number), bounds_of(self.number)
+        return " ↑" * (last < least) + " ↓" * (most < first)
+
+    def grid(self):
+        cells = {}
+        for row, state in self.entries():
+            response, present = self.table.act(row, state)
+            rests = any(self.sign(number) == " ↓" for _, _, numbers in self.nexts(row, state) for number, _ in numbers)
+            cells[row, state] = f"{self.table.responses[response]} → {self.table.states[present]}{'*' * rests}"
+        return [[cells[row, state] for state in range(len(self.table.states))] for row in range(len(self.table.operations))]
+
+    def raising(self):
+        found = []
+        for row, state in self.entries():
+            for after, is_present, numbers in self.nexts(row, state):
+                for number, response in numbers:
+                    behind = f" and answers {response}" if response else " and answers otherwise" * is_present
+                    said = f"{words_of(number)} if {self.table.operations[row]} in {self.table.states[state]} leads to {after}{behind}"
+                    found += [(-bounds_of(number)[0], said)] * (self.sign(number) == " ↑")
+        return [said for _, said in sorted(found, key=lambda it: it[0])]
+
+    def opened(self, row, state):
+        def text(number, response):
+            return (f"{response}: " if response else "") + words_of(number) + self.sign(number)
+
+        return [[after + ", as it is" * is_present, [text(*it) for it in numbers]] for after, is_present, numbers in self.nexts(row, state)]
+
+
+def entry_changes(use):
+    """The map of changes: the number with each other entry, of each kind."""
+    for name, link, options, choice in MAPS:
+        about = " ".join([name, *options])
+        use.open(f"#example=catalogue/{name}&screen=change{link}")
+        yield f"{about}: it is not asked for by the page", use.count(".entries") == 0, ""
+        yield f"{about}: which number it is", use.texts("#compare-of span") == [choice], use.texts("#compare-of span")
+        use.value(PRESS_COMPARISON % EACH_ENTRY)
+        yield f"{about}: there is a map", use.until(MAPPED), use.text("comparison")
+        told = Changes(use.table(), options)
+        yield f"{about}: the entries on which the number rests", use.value(ENTRIES) == told.grid(), (use.value(ENTRIES), told.grid())
+        raising = use.texts(RAISING)
+        yield f"{about}: what raises it", raising == told.raising()[:MOST_CHANGES], (raising, told.raising())
+        for place, (row, state) in enumerate(told.entries()):
+            use.value(f"document.querySelectorAll('.entries button')[{place}].click()")
+            seen = use.value(OPENED)
+            if seen != told.opened(row, state):
+                break
+        yield f"{about}: each next state and response of each entry", seen == told.opened(row, state), (row, state, seen)
+        pressed = use.count(".entries [aria-pressed=true]"), use.count(".opened h4")
+        use.value("document.querySelector('.entries [aria-pressed=true]').click()")
+        yield f"{about}: one entry is open, and is closed again", pressed == (1, 1) and use.count(".opened h4") == 0, pressed
+
+
+def map_of(use, name, more=""):
+    """Opens the map of changes of a type. What it says of the whole."""
+    use.open(f"#example=catalogue/{name}&screen=change{more}")
+    use.value(PRESS_COMPARISON % EACH_ENTRY)
+    use.until(MAPPED)
+    return use.texts("#comparison p")
+
+
+def told_maps(use):
+    """What the map says of types whose numbers are known."""
+    said = map_of(use, "queue_1")
+    stars = [[it.endswith("*") for it in row] for row in use.value(ENTRIES)]
+    well = stars == [[True, False, True], [True, True, False], [False] * 3] and "It rests on 4 of the 9 entries" in said[0]
+    yield "a queue rests on its first letter, and on nothing that deq does", well and said[0].endswith("It rests on no entry of deq."), (stars, said)
+    yield "nothing raises it", said[-1] == "No change of one entry raises the number." and TWO_CHANGES not in use.text("comparison"), said
+    map_of(use, "saturating_add_1_2")
+    refusing = {"infinite if add2 in 1 leads to 1", "infinite if add2 in 2 leads to 2"}
+    yield "a saturating add that refuses", refusing <= set(use.texts(RAISING)), use.texts(RAISING)
+    map_of(use, "window_2")
+    first = {"infinite if write0 in w1 leads to w1", "infinite if write1 in w0 leads to w0"}
+    yield "a window that keeps the first write", first <= set(use.texts(RAISING)[:4]), use.texts(RAISING)
+    said = map_of(use, "cas_3")
+    yield "no change of a compare-and-swap lowers it", "It rests on none of the" in said[0] and "*" not in str(use.value(ENTRIES)), said
+    map_of(use, "fetch_inc_mod4")
+    use.value(PRESS_COMPARISON % TWO_CHANGES)
+    well = use.until("/two entries/.test(document.getElementById('comparison').textContent)")
+    yield "no two changes raise a counter", well and use.texts("#comparison p")[-1] == "No change of two entries raises the number.", use.texts("#comparison p")
+    map_of(use, "swap_3")
+    use.value(PRESS_COMPARISON % TWO_CHANGES)
+    use.until(f"document.querySelectorAll({json.dumps(RAISING)}).length > 0")
+    pairs = json.loads(called(["changes", "--pairs", "--as", "json", "-"], use.table())[0])["pairs"]
+    told = [f"{it['number']} if {named(it['first'])}, and {named(it['second'])}" for it in pairs["raising"]]
+    seen = use.texts(RAISING)
+    yield "two changes raise a swap", seen == told[:MOST_CHANGES] and len(told) > MOST_CHANGES and not pairs["cut"], (seen, told)
+    more = f"Show {MOST_CHANGES} more of {len(told) - MOST_CHANGES}"
+    use.value(PRESS_COMPARISON % more)
+    seen = use.texts(RAISING), use.value(f"[...document.querySelectorAll({json.dumps(RAISING)})].indexOf(document.activeElement)")
+    yield "more of them are shown", seen == (told[: 2 * MOST_CHANGES], MOST_CHANGES), seen
+    use.value(f"document.querySelectorAll({json.dumps(RAISING)})[1].click()")
+    well = use.until("document.querySelectorAll('#comparison tbody tr').length === 2", 20)
+    yield "both changes are made", well and native_number(use.table()) == str(pairs["raising"][1]["number"]), use.table()
+
+
+def named(change):
+    return "{operation} in {state} leads to {next} and answers {response}".format(**change)
+
+
+def taken_changes(use):
+    """A change of the map is taken, and taken back; a map that is late is not shown."""
+    map_of(use, "window_2")
+    before, raising = use.table(), use.texts(RAISING)
+    for back in ("document.getElementById('undo').click()", "history.back()"):
+        use.value(f"(it => {{ it.focus(); it.click(); }})(document.querySelector({json.dumps(RAISING)}))")
+        well = use.until("document.querySelectorAll('#comparison tbody td').length === 3", 10) and use.count(".entries") == 0
+        told = use.texts("#comparison tbody td, #comparison p")
+        wanted = ["The number was 2, and is infinite now. The tables differ in 1 cell.", "w1", "ok → w10", "ok → w1"]
+        yield "a change opens beside the table", well and told == wanted and native_number(use.table()) == "infinite", told
+        focused = use.value("document.activeElement.textContent")
+        yield "the focus is there", focused == "The table that was kept, and the present one", focused
+        yield "the link holds it", use.until("location.hash.startsWith('#table=')", 10), use.value("location.hash")
+        use.value("(() => { window.asked = 0; const { run } = Cnum.Runner.prototype; Cnum.Runner.prototype.run = function (words, ...more) "
+                  "{ window.asked += words[0] === 'changes'; return run.call(this, words, ...more); }; })()")
+        use.value(f"(() => {{ {back} }})()")
+        well = use.until(MAPPED, 10) and use.table() == before and use.texts(RAISING) == raising
+        yield f"{back} takes it back, and the map is there", well and use.value("window.asked") == 0, use.value("window.asked")
+        focused = use.value("document.activeElement.textContent")
+        yield "with the focus where it was", focused == raising[0] or back.startswith("document"), focused
+    use.value("document.querySelector('.entries button').focus()")
+    for key, wanted in (("ArrowRight", 1), ("ArrowDown", 8), ("ArrowLeft", 7), ("ArrowUp", 0)):
+        focused = "[...document.querySelectorAll('.entries button')].indexOf(document.activeElement)"
+        use.press_key(f".entries tbody tr:nth-child({1 + (use.value(focused) >= 7)}) td:nth-child({2 + use.value(focused) % 7}) button", key, altKey=True)
+        yield f"Alt and {key} lead to the next entry", use.value(focused) == wanted, use.value(focused)
+    use.value("document.querySelector('#compare-of button').click()")
+    well = use.until("/number is 1/.test(document.getElementById('comparison').textContent)", 10)
+    yield "another number has a map of its own", well and use.value(ENTRIES) == Changes(before, ["--without-read"]).grid(), use.value(ENTRIES)
+    use.open("#example=catalogue/queue_1&view=changes")
+    yield "it is a view of its own", use.until(MAPPED) and use.value("document.body.classList.contains('one-part')"), use.text("comparison")
+    use.value("document.querySelector('.entries button').click()")
+    use.value("document.querySelector('.opened button').click()")
+    well = use.until("/was infinite, and is 2 now/.test(document.getElementById('comparison').textContent)", 10) and use.count(".entries") == 0
+    yield "there a change opens too, with no map of its table", well, use.text("comparison")
+    use.open("#example=types/idle&screen=change")
+    use.value(PRESS_COMPARISON % EACH_ENTRY)
+    yield "an entry that has no change", use.until(MAPPED) and use.texts("#comparison p")[0].startswith("The number is 1."), use.texts("#comparison p")
+    use.give("x")
+    yield "a table with a flaw has no map", use.count(".entries") == 0 and use.value((PRESS_COMPARISON % EACH_ENTRY).replace(".click()", ".disabled")), ""
+    use.give(LONG)
+    waits = "document.querySelector('#comparison > .buttons + div').checkVisibility()"
+    use.value("Cnum.page.screens.open('change')")
+    use.value(PRESS_COMPARISON % EACH_ENTRY)
+    yield "a long search says for how long it runs", use.until(f"{waits} && /over 16256 changed tables runs for [1-9]/.test(document.getElementById('comparison').textContent)", 20), ""
+    use.value(PRESS_COMPARISON % "Break it off")
+    yield "it is broken off", use.until(f"!{waits}", 5) and use.count(".entries") == 0, ""
+    use.value(PRESS_COMPARISON % EACH_ENTRY)
+    use.until(waits)
+    use.give(SLOT)
+    yield "another table ends it", use.until(f"!{waits}", 5) and use.count(".entries") == 0, ""
+    use.value(PRESS_COMPARISON % EACH_ENTRY)
+    yield "and has a map", use.until(MAPPED) and use.value(ENTRIES) == Changes(SLOT, []).grid(), use.value(ENTRIES)
+    use.give(LONG)
+    use.value(PRESS_COMPARISON % EACH_ENTRY)
+    use.until(waits)
+    use.value(PRESS_COMPARISON % "Without each operation")
+    yield "another question ends it", use.until("document.querySelectorAll('#comparison tbody tr').length > 2", 60) and use.count(".entries") == 0, use.text("comparison")
+
+
+def maps_for_all(use):
+    """The map of changes by names for screen readers, in contrast, on a phone, on paper and in German."""
+    for lang in ("", "&lang=de"):
+        for mode in ("light", "dark"):
+            use.call("Emulation.setDeviceMetricsOverride", **PHONE)
+            use.call("Emulation.setEmulatedMedia", features=[{"name": "prefers-color-scheme", "value": mode}])
+            use.open(f"#example=catalogue/semaphore_3&view=changes{lang}")
+            use.until(MAPPED)
+            use.value("document.querySelectorAll('.entries button')[4].click()")
+            width = use.value("document.documentElement.scrollWidth")
+            yield f"the map on a phone{lang}, {mode}", use.count(".opened table") == 1 and width <= PHONE["width"], width
+            faint = [it for it in use.value(CONTRAST) if it[0] < 4.5]
+            yield f"its contrast{lang}, {mode}", faint == [], faint
+            tints = use.value("['.rests', 'div:not(.rests)'].map(it => getComputedStyle(document.querySelector(`.entries td > ${it}`)).backgroundColor)")
+            yield f"its tint{lang}, {mode}", tints[0] != tints[1], tints
+    german = use.texts("#comparison p")[0], use.texts(RAISING)[0]
+    well = german[0].startswith("Die Zahl ist 2. Sie beruht auf 2 der 8 Einträge") and german[1] == "unendlich, wenn up in 0 zu 0 führt"
+    yield "the map in German", well, german
+    use.call("Emulation.clearDeviceMetricsOverride")
+    use.open("#example=catalogue/semaphore_3&screen=change")
+    use.value(PRESS_COMPARISON % EACH_ENTRY)
+    use.until(MAPPED)
+    name = use.value("document.querySelector('.rests button').getAttribute('aria-label')")
+    yield "an entry says that the number rests on it", name == "down in 0: no → 0; the number rests on it", name
+    entries = use.value(ENTRIES)
+    use.call("Emulation.setEmulatedMedia", media="print", features=[])
+    printed = use.value("[...document.querySelectorAll('.entries tbody tr')].map(row => [...row.cells].slice(1).map(it => it.innerText.trim()))")
+    lines = use.value("[...document.querySelectorAll('#comparison li')].map(it => it.innerText.trim())")
+    yield "the map on paper", printed == entries and all(" if " in it for it in lines) and lines, (printed, lines)
+    use.call("Emulation.setEmulatedMedia", media="", features=[])
 
 
 # The states that are seen in two runs, those that are lit in their pictures, and the end.
@@ -1551,12 +1805,13 @@ def planted(use):
 
 
 ALL = (
-    first_answer, flaws, examples, meanings, pictures, picture_tools, words, grid, changes, comparisons, unread, two_runs, example_search,
+    first_answer, flaws, examples, meanings, pictures, picture_tools, words, grid, changes, comparisons, unread, entry_changes, told_maps, taken_changes,
+    maps_for_all, two_runs, example_search,
     planted, schedules, shortest_plans, chosen_plans, crashes, forgotten, pictured_runs, adversaries, keys, phone, links, certificates, explanations, searches, one_file, without, for_all,
     paper, slides, languages, foot, quiet, on_a_server, missing_parts,
 )
 # The parts that also run in a browser that is not driven by DevTools.
 WITHOUT_DEVTOOLS = (
-    first_answer, meanings, pictures, words, grid, changes, comparisons, unread, two_runs, example_search, planted, schedules,
+    first_answer, meanings, pictures, words, grid, changes, comparisons, unread, entry_changes, told_maps, taken_changes, two_runs, example_search, planted, schedules,
     shortest_plans, chosen_plans, crashes, forgotten, pictured_runs, adversaries, keys, links, certificates, explanations, searches, one_file, languages, foot, on_a_server, missing_parts,
 )

@@ -1,5 +1,5 @@
-// Compares tables: the present one with one that was kept, with those in which one operation is left out, and
-// with those of each pair of operations.
+// Compares tables: the present one with one that was kept, with those in which one operation is left out, with
+// those of each pair of operations, and with those in which one entry is another.
 var Cnum = globalThis.Cnum || {};
 
 (() => {
@@ -7,6 +7,7 @@ var Cnum = globalThis.Cnum || {};
 
     const { button, element, say, tableOf, wide } = Cnum;
     const BEFORE_WAITING = 400;
+    const TICK = 100;
 
     // The cells of a table, 'response → state' each, by operation and state.
     function cellsOf(text) {
@@ -76,28 +77,39 @@ var Cnum = globalThis.Cnum || {};
     }
 
     class Comparison {
-        // Shows comparisons in this place. `numbers` gives the numbers of tables, and `pairs` what `pairs` tells of
-        // one; either is null if the program ends with a fault or is broken off. `breakOff` does that. `take` makes a
-        // table the present one, and `openWhy` also shows why it has its number.
-        constructor(place, { numbers, pairs, breakOff, take, openWhy }) {
-            Object.assign(this, { numbers, pairs, breakOff, take, openWhy, text: '', first: null, round: 0, repeat: null });
+        // Shows comparisons in this place. `kind` tells which number is chosen. `numbers` gives the numbers of tables, `two` those
+        // of two side by side, `pairs` what `pairs` tells of a table, and `changes` what `changes` does; each is null if the
+        // program ends with a fault or is broken off. `breakOff` does that, and `breakOffAnswer` for all but `two`. `take` makes
+        // a table the present one, and `openWhy` also shows why it has its number.
+        constructor(place, asks) {
+            Object.assign(this, asks, { text: '', first: null, round: 0, turn: 0, running: 0, repeat: null, map: null, opening: null });
             this.withoutButton = button(say('without_each'), () => this.leaveOut());
             this.pairsButton = button(say('each_pair'), () => this.pair());
+            this.changesButton = button(say('each_entry'), () => this.changeEntries());
             this.keepButton = button(say('keep_table'), () => this.keep());
             this.answer = element('div', { 'aria-live': 'polite' });
             this.beside = element('div', { 'aria-live': 'polite' });
-            this.waiting = element('div', { hidden: '' }, say('searching'), ' ', button(say('break_off'), () => this.breakOff()));
-            const buttons = element('div', { class: 'buttons' }, this.pairsButton, this.withoutButton, this.keepButton);
+            this.waited = element('span');
+            this.waiting = element('div', { hidden: '' }, this.waited, ' ', button(say('break_off'), () => this.breakOff()));
+            const buttons = element('div', { class: 'buttons' }, this.pairsButton, this.withoutButton, this.changesButton, this.keepButton);
             place.replaceChildren(buttons, this.waiting, this.answer, this.beside);
         }
 
-        // The present table, or an empty text if it has flaws.
+        // The present table, or an empty text if it has flaws. If it is the one of the last map of changes, as behind an undo, the map
+        // is shown again.
         show(text) {
+            const compared = this.begin(text);
+            if (text && this.isMapped()) this.showMap();
+            return compared;
+        }
+
+        // Takes this table, and shows nothing of it but the one that was kept beside it.
+        begin(text) {
             this.text = text;
             this.repeat = null;
             this.round++;
             this.withoutButton.disabled = this.pairsButton.disabled = Cnum.withoutEach(text).length === 0;
-            this.keepButton.disabled = !text;
+            this.keepButton.disabled = this.changesButton.disabled = !text;
             this.answer.replaceChildren();
             return this.compare();
         }
@@ -106,30 +118,51 @@ var Cnum = globalThis.Cnum || {};
         again() {
             const { repeat, text } = this;
             this.breakOff();
-            this.show(text);
+            this.begin(text);
             if (repeat) repeat();
         }
 
-        // What is asked for, or null if another table has come since. If it takes long, that is shown.
-        async told(asked) {
+        // What is asked for, or null if another table has come since. If it takes long, that is shown, and for how long.
+        async told(asked, running = 'running', words = {}) {
             const { round } = this;
-            const slow = setTimeout(() => (this.waiting.hidden = false), BEFORE_WAITING);
+            const began = performance.now();
+            this.running++;
+            const tick = setInterval(() => {
+                const passed = performance.now() - began;
+                if (passed < BEFORE_WAITING) return;
+                this.waited.textContent = say(running, { ...words, seconds: (passed / 1000).toFixed(1) });
+                this.waiting.hidden = false;
+            }, TICK);
             const answer = await asked;
-            clearTimeout(slow);
-            this.waiting.hidden = true;
+            clearInterval(tick);
+            this.running--;
+            if (!this.running) this.waiting.hidden = true;
             return round === this.round ? answer : null;
+        }
+
+        // Ends what was asked for in the place of answers, as something else comes there. The number of that.
+        nextTurn() {
+            this.breakOffAnswer();
+            return ++this.turn;
+        }
+
+        // What is asked for in the place of answers, or null if another table or something else has come since.
+        async answerOf(ask, ...running) {
+            const turn = this.nextTurn();
+            const told = await this.told(ask(), ...running);
+            return turn === this.turn ? told : null;
         }
 
         // The number of the table without each of its operations.
         async leaveOut() {
             this.repeat = () => this.leaveOut();
             const tables = Cnum.withoutEach(this.text);
-            const told = await this.told(this.numbers([this.text, ...tables.map(it => it.text)]));
+            const told = await this.answerOf(() => this.numbers([this.text, ...tables.map(it => it.text)]));
             if (!told) return;
             const [whole, ...numbers] = told.map(Cnum.numberText);
             const showing = text => button(say('show_table'), () => this.take(text));
             const rows = tables.map((it, index) => [it.operation, numbers[index], showing(it.text)]);
-            const heads = ['operation_left', 'number_head', 'show_head'].map(it => say(it));
+            const heads = ['operation_left', 'number_column', 'show_head'].map(it => say(it));
             const table = tableOf(heads, [[say('no_operation'), whole, ''], ...rows], { class: 'pairs' });
             this.answer.replaceChildren(element('h3', {}, say('without_head')), wide(say('without_head'), table));
         }
@@ -139,7 +172,7 @@ var Cnum = globalThis.Cnum || {};
         async pair() {
             const { text } = this;
             this.repeat = () => this.pair();
-            const told = await this.told(this.pairs(text));
+            const told = await this.answerOf(() => this.pairs(text));
             if (!told) return;
             const names = told.alone.map(it => it.operations[0]);
             const rows = names.map(name => [name, ...Array(names.length).fill('')]);
@@ -149,6 +182,40 @@ var Cnum = globalThis.Cnum || {};
             }
             const table = tableOf([say('operation_head'), ...names], rows, { class: 'pairs' });
             this.answer.replaceChildren(element('h3', {}, say('pairs_head')), wide(say('pairs_head'), table), ...smallest(told));
+        }
+
+        // The number with each other entry, as a map. If the last map is of this table, it is not asked for again.
+        async changeEntries() {
+            const { text } = this;
+            const kind = this.kind();
+            const ask = ofTwo => this.answerOf(() => this.changes(text, ofTwo), 'running_changes', { count: Cnum.countChanges(text, ofTwo) });
+            this.repeat = () => this.changeEntries();
+            if (this.isMapped()) {
+                this.nextTurn();
+            } else {
+                const told = await ask(false);
+                if (!told) return;
+                this.map = { text, kind, shown: new Cnum.ChangeMap(text, told, { make: changed => this.open(changed), two: () => ask(true) }) };
+            }
+            this.showMap();
+        }
+
+        // Whether the last map is of the present table and of the number that is chosen.
+        isMapped() {
+            return Boolean(this.map) && this.map.text === this.text && this.map.kind === this.kind();
+        }
+
+        showMap() {
+            this.repeat = () => this.changeEntries();
+            this.answer.replaceChildren(this.map.shown.place);
+            this.map.shown.focus();
+        }
+
+        // Takes a table, and shows it beside the present one.
+        open(text) {
+            this.first = this.text;
+            this.opening = text;
+            return this.take(text);
         }
 
         keep() {
@@ -163,7 +230,7 @@ var Cnum = globalThis.Cnum || {};
                 this.beside.replaceChildren(...(first && text ? [element('p', { class: 'quiet' }, say('table_kept'))] : []));
                 return;
             }
-            const told = await this.told(this.numbers([first, text]));
+            const told = await this.told(this.two([first, text]));
             if (!told) return;
             const numbers = told.map(Cnum.numberText);
             const found = Cnum.differences(first, text);
@@ -172,7 +239,10 @@ var Cnum = globalThis.Cnum || {};
             const sentence = element('p', {}, say(found.length === 1 ? 'two_numbers_one' : 'two_numbers', { first: numbers[0], second: numbers[1], count: found.length }));
             const back = button(say('show_kept'), () => this.take(first));
             const table = wide(say('beside_head'), tableOf(heads, rows, { class: 'pairs' }));
-            this.beside.replaceChildren(element('h3', {}, say('beside_head')), sentence, ...(found.length ? [table] : []), back);
+            const head = element('h3', { tabindex: -1 }, say('beside_head'));
+            this.beside.replaceChildren(head, sentence, ...(found.length ? [table] : []), back);
+            if (this.opening === text) head.focus();
+            this.opening = null;
         }
     }
 

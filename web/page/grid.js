@@ -45,7 +45,7 @@ var Cnum = globalThis.Cnum || {};
         constructor(place, change) {
             this.place = place;
             this.change = change;
-            place.addEventListener('keydown', event => this.move(event));
+            place.addEventListener('keydown', event => Cnum.stepAmongCells(place, event, 'input, select'));
         }
 
         show(text) {
@@ -163,18 +163,19 @@ var Cnum = globalThis.Cnum || {};
             (same || fields[Math.min(at, fields.length - 1)]).focus();
         }
 
-        // With the key Alt, the arrow keys go from cell to cell.
-        move(event) {
-            const cell = event.target.closest('th, td');
-            if (!event.altKey || !STEPS[event.key] || !cell) return;
-            event.preventDefault();
-            const [down, right] = STEPS[event.key];
-            const row = this.place.querySelectorAll('tr')[cell.parentNode.rowIndex + down];
-            const next = row && row.cells[cell.cellIndex + right];
-            const field = next && next.querySelector('input, select');
-            if (field) field.focus();
-        }
     }
+
+    // With the key Alt, the arrow keys go from cell to cell of a table, to the first of these fields in it.
+    Cnum.stepAmongCells = function (place, event, fields) {
+        const cell = event.target.closest('th, td');
+        if (!event.altKey || !STEPS[event.key] || !cell) return;
+        event.preventDefault();
+        const [down, right] = STEPS[event.key];
+        const row = place.querySelectorAll('tr')[cell.parentNode.rowIndex + down];
+        const next = row && row.cells[cell.cellIndex + right];
+        const field = next && next.querySelector(fields);
+        if (field) field.focus();
+    };
 
     Cnum.Grid = Grid;
 })();

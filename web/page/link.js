@@ -11,7 +11,7 @@ var Cnum = globalThis.Cnum || {};
     const OLD_FORM = 'deflate-raw'; // of links that older pages made
     const FIRST_BYTE = 0x78; // of a text in the form with a checksum
     const MOST_INPUT = 2n ** 64n - 1n;
-    const VIEWS = ['number', 'why', 'states', 'run', 'pairs', 'exercise', 'solution'];
+    const VIEWS = ['number', 'why', 'states', 'run', 'pairs', 'changes', 'exercise', 'solution'];
     // The screens of the page; the first one is shown if nothing else is said. On a wide window the table is beside each.
     const SCREENS = ['why', 'change', 'run', 'print', 'table'];
 
@@ -76,7 +76,7 @@ var Cnum = globalThis.Cnum || {};
     };
 
     // The screens of views, and the screen of a link that names none: that of its view, or of the run, if it has one.
-    const OF_VIEWS = { run: 'run', pairs: 'change', exercise: 'print', solution: 'print' };
+    const OF_VIEWS = { run: 'run', pairs: 'change', changes: 'change', exercise: 'print', solution: 'print' };
     const screenOf = ({ acts, isTried, view }) => OF_VIEWS[view] || (acts.length || isTried ? 'run' : SCREENS[0]);
 
     // Whether a process can propose what stands in its field.

@@ -24,7 +24,7 @@ var Cnum = globalThis.Cnum || {};
             this.search = new Cnum.Runner(module);
             this.adversary = new Cnum.Runner(module);
             this.unread = new Cnum.Runner(module); // of searches for objects that are not read, which may take long
-            this.others = new Cnum.OtherTables(module, { reads: () => this.reads, notice: text => this.notice(text) });
+            this.others = new Cnum.OtherTables(module, { kind: () => this.kind(), notice: text => this.notice(text) });
             this.round = 0;
             this.past = new Cnum.Past();
             this.choice = new Cnum.PlanChoice(this);
@@ -53,9 +53,13 @@ var Cnum = globalThis.Cnum || {};
         // What comparisons need of the page.
         forComparison() {
             return {
-                numbers: texts => this.others.numbersOf(this.others.beside, texts),
-                pairs: text => (this.reads ? this.others.pairsOf(text) : this.others.pairsWithoutReads(text)),
+                kind: () => this.kind(),
+                numbers: texts => this.others.numbersOf(this.others.asked, texts),
+                two: texts => this.others.numbersOf(this.others.beside, texts),
+                pairs: text => this.others.pairsOf(text),
+                changes: (text, ofTwo) => this.others.changesOf(text, ofTwo),
                 breakOff: () => this.others.breakOff(),
+                breakOffAnswer: () => this.others.asked.breakOff(),
                 take: text => this.edit(text),
                 openWhy: text => this.openWhy(text),
             };
@@ -94,6 +98,12 @@ var Cnum = globalThis.Cnum || {};
                 notice: text => this.notice(text),
                 printed,
             };
+        }
+
+        // Which number comparisons tell.
+        kind() {
+            if (!this.reads) return 'without_read';
+            return this.choice.comeBack ? 'recoverable' : 'consensus';
         }
 
         mainPicture() {
@@ -324,6 +334,7 @@ var Cnum = globalThis.Cnum || {};
             this.forget(isTable ? '' : say('no_number'));
             this.comparison.show(isTable ? this.table : '');
             if (isTable && this.screens.view === 'pairs') this.comparison.pair();
+            if (isTable && linked.view === 'changes') this.comparison.changeEntries();
             this.tellChoice();
             if (isTable) await this.find(linked);
             await this.address.keep();
@@ -527,6 +538,7 @@ var Cnum = globalThis.Cnum || {};
                 it.lastElementChild.textContent = say(reads ? 'show_unread' : 'show_readable');
                 it.classList.toggle('unread', !reads);
             }
+            if (this.kind() === 'recoverable') at('compare-of').firstElementChild.textContent = say('of_recoverable');
             at('protocol-of').hidden = reads;
         }
 

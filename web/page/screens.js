@@ -8,7 +8,7 @@ var Cnum = globalThis.Cnum || {};
     const { button, say } = Cnum;
     const { SCREENS } = Cnum.links;
     // The parts that can be shown alone, by their names in a link.
-    const VIEWS = { number: 'number-part', why: 'why-part', states: 'picture-part', run: 'protocol-part', pairs: 'compare-part' };
+    const VIEWS = { number: 'number-part', why: 'why-part', states: 'picture-part', run: 'protocol-part', pairs: 'compare-part', changes: 'compare-part' };
     const SHEETS = ['exercise', 'solution'];
     const LARGE = 'run'; // the view that fits one screen
 
