@@ -35,6 +35,10 @@ _cnum() {
         options='--as -h --help' arguments='FILE'
         [[ $previous == --as ]] && values='text json markdown'
         ;;
+    changes)
+        options='--recoverable --without-read --pairs --as -h --help' arguments='FILE'
+        [[ $previous == --as ]] && values='text json markdown'
+        ;;
     show)
         options='--shortest --without-read --processes --as --table -h --help' arguments='CERT FILE'
         [[ $previous == --processes ]] && values='2 3 4 5 6 7 8'
@@ -90,7 +94,7 @@ _cnum() {
     fi
     case ${arguments[at]} in
     COMMAND*)
-        mapfile -t COMPREPLY < <(compgen -W 'find classify lint check explain why pairs show draw agree replay serve help' -- "$current")
+        mapfile -t COMPREPLY < <(compgen -W 'find classify lint check explain why pairs changes show draw agree replay serve help' -- "$current")
         ;;
     CERT* | OBJECT* | FILE*)
         mapfile -t COMPREPLY < <(compgen -f -- "$current")

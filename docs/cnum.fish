@@ -48,6 +48,7 @@ complete -c cnum -n '__cnum_is' -a check -d 'Checks a certificate against the ty
 complete -c cnum -n '__cnum_is' -a explain -d 'Tells why the number of a certificate is what it is'
 complete -c cnum -n '__cnum_is' -a why -d 'Finds the consensus number of the type, and tells why it is what it is'
 complete -c cnum -n '__cnum_is' -a pairs -d 'Writes the numbers of the operations of the type and of their pairs'
+complete -c cnum -n '__cnum_is' -a changes -d 'Writes the numbers of the type with each other entry in its table'
 complete -c cnum -n '__cnum_is' -a show -d 'Writes the plan of a certificate\'s witness, or the shortest plan'
 complete -c cnum -n '__cnum_is' -a draw -d 'Draws the states of the type'
 complete -c cnum -n '__cnum_is' -a agree -d 'Runs the plan of a certificate\'s witness by a schedule'
@@ -98,6 +99,12 @@ complete -c cnum -n '__cnum_at why 1' -F
 complete -c cnum -n '__cnum_is pairs' -l as -x -a 'text json markdown' -d 'The form in which the numbers are written'
 complete -c cnum -n '__cnum_is pairs' -s h -l help -d 'Print help'
 complete -c cnum -n '__cnum_at pairs 1' -F
+complete -c cnum -n '__cnum_is changes' -l recoverable -d 'Tells recoverable numbers'
+complete -c cnum -n '__cnum_is changes' -l without-read -d 'Tells numbers for objects that are not read'
+complete -c cnum -n '__cnum_is changes' -l pairs -d 'Tries changes of two entries where none of one raises the number'
+complete -c cnum -n '__cnum_is changes' -l as -x -a 'text json markdown' -d 'The form in which the numbers are written'
+complete -c cnum -n '__cnum_is changes' -s h -l help -d 'Print help'
+complete -c cnum -n '__cnum_at changes 1' -F
 complete -c cnum -n '__cnum_is show' -l shortest -d 'Writes the shortest plan, with no certificate: CERT is the table'
 complete -c cnum -n '__cnum_is show' -l without-read -d 'Writes the shortest plan of which no process reads'
 complete -c cnum -n '__cnum_is show' -l processes -x -a '2 3 4 5 6 7 8' -d 'How many processes there are, from 2 to 8, where there is no certificate'
@@ -135,4 +142,4 @@ complete -c cnum -n '__cnum_at serve 1' -F
 complete -c cnum -n '__cnum_at serve 2' -F
 complete -c cnum -n '__cnum_at serve 5' -a '(__cnum_list)'
 complete -c cnum -n '__cnum_at serve 6' -F
-complete -c cnum -n '__cnum_from help 1' -a 'find classify lint check explain why pairs show draw agree replay serve help'
+complete -c cnum -n '__cnum_from help 1' -a 'find classify lint check explain why pairs changes show draw agree replay serve help'

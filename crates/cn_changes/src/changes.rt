@@ -8,6 +8,7 @@ ghost use Rattle.cn_changes.specs.Told.{AreAllNumbers, AreNextNumbers};
 use crate::kind::{NumberKind, number_of};
 use crate::numbers::{NextNumbers, next_numbers};
 use crate::targets::{Target, targets_of};
+use cn_search::{Threading, with_fallback};
 use cn_table::Table;
 use cn_unread_number::NumberBounds;
 use rayon::prelude::*;
@@ -26,6 +27,33 @@ pub struct Changes {
 }
 
 /// These entries and next states, each with its numbers. The threads share them.
+fn numbers_in<T: Threads + Sync>(
+    rt: &T,
+    alloc: Global,
+    table: &Table,
+    kind: NumberKind,
+    targets: &[Target],
+    threading: Threading,
+) -> Result<Vec<NextNumbers>, AllocError>
+    requires { All (IsTarget table.now) targets.now }
+    ensures { IfOk result (λ nexts. AllZip
+        (λ x told. (told.target ≡ x) × AreNextNumbers kind table.now told) targets.now nexts.items) }
+{
+    targets
+        .par_iter()
+        .with_min_len(threading.least_piece())
+        .map(
+            |target: &Target| -> Result<NextNumbers, AllocError>
+                requires { IsTarget table.now target.now }
+                ensures { IfOk result (λ told. (told.target ≡ target.now)
+                    × AreNextNumbers kind table.entry.now told) }
+            { next_numbers(rt, alloc, table, kind, *target) },
+        )
+        .collect::<Result<Vec<NextNumbers>, AllocError>>(rt, alloc)?
+}
+
+/// These entries and next states, each with its numbers, in several threads, or in one if these get
+/// too little memory.
 fn numbers_of<T: Threads + Sync>(
     rt: &T,
     alloc: Global,
@@ -37,17 +65,15 @@ fn numbers_of<T: Threads + Sync>(
     ensures { IfOk result (λ nexts. AllZip
         (λ x told. (told.target ≡ x) × AreNextNumbers kind table.now told) targets.now nexts.items) }
 {
-    targets
-        .par_iter()
-        .with_min_len(1)
-        .map(
-            |target: &Target| -> Result<NextNumbers, AllocError>
-                requires { IsTarget table.now target.now }
-                ensures { IfOk result (λ told. (told.target ≡ target.now)
-                    × AreNextNumbers kind table.entry.now told) }
-            { next_numbers(rt, alloc, table, kind, *target) },
-        )
-        .collect::<Result<Vec<NextNumbers>, AllocError>>(rt, alloc)?
+    with_fallback(
+        alloc,
+        |threading: Threading| -> Result<Vec<NextNumbers>, AllocError>
+            requires { All (IsTarget table.now) targets.now }
+            ensures { IfOk result (λ nexts. AllZip
+                (λ x told. (told.target ≡ x) × AreNextNumbers kind table.entry.now told)
+                targets.entry.now nexts.items) }
+        { numbers_in(rt, alloc, table, kind, targets, threading) },
+    )
 }
 
 /// The number of a type, and its numbers with each change of one entry.

@@ -11,6 +11,7 @@ use crate::greatest::{GREATEST_RANK, Numbered, greatest_first};
 use crate::kind::NumberKind;
 use crate::less::is_less;
 use crate::numbers::number_with;
+use cn_search::{Threading, with_fallback};
 use cn_table::Table;
 use cn_unread_number::NumberBounds;
 use rayon::prelude::*;
@@ -150,6 +151,33 @@ fn number_with_both<T: Threads + Sync>(
 }
 
 /// These pairs, each with the number of the type with both. The threads share them.
+fn numbers_in<T: Threads + Sync>(
+    rt: &T,
+    alloc: Global,
+    table: &Table,
+    kind: NumberKind,
+    pairs: &[ChangePair],
+    threading: Threading,
+) -> Result<Vec<PairNumber>, AllocError>
+    requires { All (λ pair. IsChange table.now pair.first × IsChange table.now pair.second) pairs.now }
+    ensures { IfOk result (λ told. AllZip (λ pair one. (one.pair ≡ pair)
+        × HasNumberOf kind (with_both table.now one.pair) one.number) pairs.now told.items) }
+{
+    pairs
+        .par_iter()
+        .with_min_len(threading.least_piece())
+        .map(
+            |pair: &ChangePair| -> Result<PairNumber, AllocError>
+                requires { IsChange table.now pair.now.first × IsChange table.now pair.now.second }
+                ensures { IfOk result (λ one. (one.pair ≡ pair.now)
+                    × HasNumberOf kind (with_both table.entry.now one.pair) one.number) }
+            { number_with_both(rt, alloc, table, kind, *pair) },
+        )
+        .collect::<Result<Vec<PairNumber>, AllocError>>(rt, alloc)?
+}
+
+/// These pairs, each with the number of the type with both, in several threads, or in one if these get
+/// too little memory.
 fn numbers_of<T: Threads + Sync>(
     rt: &T,
     alloc: Global,
@@ -161,17 +189,16 @@ fn numbers_of<T: Threads + Sync>(
     ensures { IfOk result (λ told. AllZip (λ pair one. (one.pair ≡ pair)
         × HasNumberOf kind (with_both table.now one.pair) one.number) pairs.now told.items) }
 {
-    pairs
-        .par_iter()
-        .with_min_len(1)
-        .map(
-            |pair: &ChangePair| -> Result<PairNumber, AllocError>
-                requires { IsChange table.now pair.now.first × IsChange table.now pair.now.second }
-                ensures { IfOk result (λ one. (one.pair ≡ pair.now)
-                    × HasNumberOf kind (with_both table.entry.now one.pair) one.number) }
-            { number_with_both(rt, alloc, table, kind, *pair) },
-        )
-        .collect::<Result<Vec<PairNumber>, AllocError>>(rt, alloc)?
+    with_fallback(
+        alloc,
+        |threading: Threading| -> Result<Vec<PairNumber>, AllocError>
+            requires { All (λ pair. IsChange table.now pair.first
+                × IsChange table.now pair.second) pairs.now }
+            ensures { IfOk result (λ told. AllZip (λ pair one. (one.pair ≡ pair)
+                × HasNumberOf kind (with_both table.entry.now one.pair) one.number)
+                pairs.entry.now told.items) }
+        { numbers_in(rt, alloc, table, kind, pairs, threading) },
+    )
 }
 
 /// Those of the pairs that raise the number.

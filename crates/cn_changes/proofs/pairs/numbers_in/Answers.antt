@@ -8,7 +8,7 @@ use Rattle.cn_changes.specs.Kinds.{HasNumberOf}
 use Rattle.cn_changes.specs.Pairs.{with_both}
 use Rattle.cn_changes.specs.declared.pairs.ChangePair.{ChangePair}
 use Rattle.cn_changes.specs.declared.pairs.PairNumber.{PairNumber}
-use Rattle.cn_changes.proofs.pairs.numbers_of.Goals as goal
+use Rattle.cn_changes.proofs.pairs.numbers_in.Goals as goal
 
 pub returns : goal.returns
 returns g c =

@@ -7,7 +7,7 @@ use Rattle.cn_stocks.proofs.Decisions.{collected}
 use Rattle.cn_changes.specs.Told.{AreNextNumbers}
 use Rattle.cn_changes.specs.declared.numbers.NextNumbers.{NextNumbers}
 use Rattle.cn_changes.specs.declared.targets.Target.{Target}
-use Rattle.cn_changes.proofs.changes.numbers_of.Goals as goal
+use Rattle.cn_changes.proofs.changes.numbers_in.Goals as goal
 
 pub returns : goal.returns
 returns g c =
