@@ -33,6 +33,10 @@ class Table:
         """The response and the next state."""
         return self.rows[operation][state]
 
+    def count_changes(self):
+        """How many changes of one entry there are."""
+        return len(self.operations) * len(self.states) * (len(self.states) * len(self.responses) - 1)
+
 
 def quoted(names):
     """Names as an array of texts."""

@@ -11,10 +11,10 @@ import pathlib
 import re
 import subprocess
 import tempfile
-import tomllib
 
 from calls import PROGRAM, TOP
 from rows import rows
+from table import Table
 
 LONGEST = 60
 MOST_CHANGES = 100  # of one entry of a table whose `changes` are compared: those of the greatest tables take hours
@@ -45,11 +45,6 @@ def hostile_certificates():
     made = [b"", b"{", b"[" * deep, b'{"a":' * 60 + b"1" + b"}" * 60, b'{"collisions":' + b"[" * 127, b'{"a":' * deep, b"\xff", b"\xef\xbb\xbf{}"]
     made += [b'"' + b"\\" * (deep - 1), b"1" * deep, b"1e999999999", b" " * 16777217]
     return made + [(TOP / "types/test_and_set_at_3.json").read_bytes()] + files("tests/certificates", "tests/numbers", "tests/refused")
-
-
-def count_changes(table):
-    it = tomllib.loads(table.decode())
-    return len(it["operation"]) * len(it["states"]) * (len(it["states"]) * len(it["responses"]) - 1)
 
 
 def files(*folders):
@@ -100,7 +95,7 @@ class Jobs:
         self.run(["classify", "--limit", "5", "-"], table)
         for form in ("text", "json", "markdown"):
             self.run(["pairs", "--as", form, "-"], table)
-        if count_changes(table) <= MOST_CHANGES:
+        if Table(table.decode()).count_changes() <= MOST_CHANGES:
             for options in (["--as", "text"], ["--as", "json"], ["--as", "markdown"], ["--recoverable", "--as", "json"], ["--without-read", "--as", "json"]):
                 self.run(["changes", *options, "-"], table)
         for form in ("text", "json", "markdown"):
