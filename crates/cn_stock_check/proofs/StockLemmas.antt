@@ -188,7 +188,7 @@ module _ (t : TypeTable) (joins : List Join) (start : ℕ) where
           let same : HaveSame ((stock ++ next ∷ []) ++ r.0) (stock ++ rest) = λ o. move r.0 o ∙ same_behind (next ∷ r.0) rest r.1 o in
           let other = same_sym ((stock ++ next ∷ []) ++ r.0) (stock ++ rest) same in
           connect_same joins start ((stock ++ next ∷ []) ++ r.0) (stock ++ rest) same
-              (with_it r.0 (omega (arith, r.2, long)) (λ o l. from o (less o l)) (must_same t (stock ++ rest) ((stock ++ next ∷ []) ++ r.0) other must))
+          (with_it r.0 (omega (arith, r.2, long)) (λ o l. from o (less o l)) (must_same t (stock ++ rest) ((stock ++ next ∷ []) ++ r.0) other must))
           )
       | inr lacks ↦ later rest long (from_behind rest from (λ o l e. (let s : times next rest ≡ times o rest = ap (λ (x : ℕ). times x rest) e in absurd (omega (arith, s, lacks, l))))) must
     ]

@@ -15,7 +15,9 @@ fn push_count(text: &mut String, count: usize) -> Result<(), AllocError>
     ensures { OnOk result (string_bytes text.new ≡ string_bytes text.old ++ count_words count) }
 {
     match count {
-        0 => text.push_str("no join is needed, since no two operations of the type lead from a state to different ones.\n"),
+        0 => text.push_str(
+            "no join is needed, since no two operations of the type lead from a state to different ones.\n",
+        ),
         1 => text.push_str(
             "1 join; in both of its runs some process gets the response behind the slash and reads the state left.\n",
         ),

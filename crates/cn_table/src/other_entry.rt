@@ -72,7 +72,7 @@ pub fn entry_makes_a_table()
     ensures there { (t : TypeTable) (operation state response next : ℕ) → IsTypeTable t
         → IsEntry t operation state response next
         → transition (with_entry t operation state response next) operation state
-            ≡ (response, next) }
+        ≡ (response, next) }
     // promise: parts-of-a-table
     ensures other_operation { (t : TypeTable) (operation state response next o q : ℕ)
         → o ≢ operation
