@@ -115,8 +115,7 @@ class Type:  # states, operations, processes and entries have numbers, from 0
             part = {*there[:1]}
             while more := {x for _, *pair in needs for x in pair if part & {*pair}} - part: part |= more
             return demand(part >= {*there}, f"joins do not connect {there}")
-        differs = all(any(one[1] != two[1] for one, two in zip(self.act[others[0]], self.act[it])) for it in there)
-        for count in range(0 if others[1:] else left, left * differs + 1):
+        for count in range(0 if others[1:] else left, 1 + left * all(any(x[1] != y[1] for x, y in zip(self.act[others[0]], self.act[it])) for it in there)):
             self.connect([it for it in needs if it[0][others[0]] <= count], there + others[:1] * (count > 0), others[1:], left - count)
     def is_team_witness(self, start, look, operations, team_of):  # by its response, and by what it sees of the last state, each process tells the first team
         seen = [look and q if type(look) is bool else self.act[look][q][0] for q in range(len(self.states))]
