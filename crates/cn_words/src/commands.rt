@@ -246,6 +246,15 @@ pub enum Invocation<'a> {
         /// The form of the plan.
         form: PlanForm,
     },
+    /// Writes the plan of the first recording witness.
+    RecoverablePlan {
+        /// Where the table is read from.
+        table: TextSource<'a>,
+        /// How many processes there are, if a number was given.
+        processes: Option<u8>,
+        /// The form of the plan.
+        form: AnswerForm,
+    },
 }
 
 /// Why there is no command.
@@ -732,7 +741,8 @@ fn shortest_run<'a>(words: &ArgMatches<'a>) -> Option<Invocation<'a>>
 
 // What `show` asks for by a shortest plan.
 fn shortest_plan<'a>(words: &ArgMatches<'a>) -> Option<Invocation<'a>>
-    requires { asks_for_shortest (rows_in words.now) ≡ true }
+    requires shortest { asks_for_shortest (rows_in words.now) ≡ true }
+    requires lasting { is_flag_set (codes "recoverable") (rows_in words.now) ≡ false }
     ensures { Finds (IsInvocation (codes "show") (rows_in words.now)) result }
 {
     Some(Invocation::ShortestPlan {
@@ -740,6 +750,21 @@ fn shortest_plan<'a>(words: &ArgMatches<'a>) -> Option<Invocation<'a>>
         without_read: is_flag_set(words, "without-read"),
         processes: optional_number(words, "processes")?,
         form: form(words)?,
+    })
+}
+
+// What `show --recoverable` asks for.
+fn recoverable_plan<'a>(words: &ArgMatches<'a>) -> Option<Invocation<'a>>
+    requires { is_flag_set (codes "recoverable") (rows_in words.now) ≡ true }
+    ensures { Finds (IsInvocation (codes "show") (rows_in words.now)) result }
+{
+    if asks_for_shortest(words) {
+        return None;
+    }
+    Some(Invocation::RecoverablePlan {
+        table: plan_table(words)?,
+        processes: optional_number(words, "processes")?,
+        form: answer_form(words)?,
     })
 }
 
@@ -759,6 +784,9 @@ fn invocation_named<'a>(
     }
     if name == "agree" && asks_for_shortest(words) {
         return Ok(shortest_run(words));
+    }
+    if name == "show" && is_flag_set(words, "recoverable") {
+        return Ok(recoverable_plan(words));
     }
     if name == "show" && asks_for_shortest(words) {
         return Ok(shortest_plan(words));

@@ -1,5 +1,5 @@
-//! The words of plans without a certificate: `agree --recoverable`, and of `agree` and `show`
-//! `--shortest` and `--without-read`.
+//! The words of plans without a certificate: of `agree` and `show` `--recoverable`, `--shortest` and
+//! `--without-read`.
 ghost use Rattle.std.specs.Prelude.{◌≡◌};
 ghost use Rattle.cn_words.specs.GivenCommands.{Finds, HasPlanTable, HasRun, HasRunTable};
 ghost use Rattle.cn_words.specs.GivenCommands.{asks_for_shortest, excludes_certificate, is_flag_set, is_of_plan, rows_in};
@@ -80,7 +80,7 @@ pub(crate) fn run_table<'a>(words: &ArgMatches<'a>) -> Option<TextSource<'a>>
     Some(TextSource::of(word(words, "CERT")?))
 }
 
-// Where the table of the shortest plan is read from: the option or the first word, which is the
+// Where the table of such a plan is read from: the option or the first word, which is the
 // certificate of other plans, but not both. Without a word for it, that is standard input.
 pub(crate) fn plan_table<'a>(words: &ArgMatches<'a>) -> Option<TextSource<'a>>
     ensures { Finds (HasPlanTable (rows_in words.now)) result }
