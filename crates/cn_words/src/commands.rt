@@ -9,7 +9,7 @@ use crate::plan_certificates::{check_shortest, find_shortest};
 use crate::stock_certificates::{check_stocks, explain_stocks, find_stocks, why_stocks};
 use crate::without_certificate::{
     RunWords, asks_for_shortest, excludes_certificate, is_flag_set, is_of_plan, plan_table,
-    run_table, run_words,
+    recoverable_plan, run_table, run_words,
 };
 use clap::ArgMatches;
 use cn_form::{AnswerForm, DocumentForm, PlanForm};
@@ -750,21 +750,6 @@ fn shortest_plan<'a>(words: &ArgMatches<'a>) -> Option<Invocation<'a>>
         without_read: is_flag_set(words, "without-read"),
         processes: optional_number(words, "processes")?,
         form: form(words)?,
-    })
-}
-
-// What `show --recoverable` asks for.
-fn recoverable_plan<'a>(words: &ArgMatches<'a>) -> Option<Invocation<'a>>
-    requires { is_flag_set (codes "recoverable") (rows_in words.now) ≡ true }
-    ensures { Finds (IsInvocation (codes "show") (rows_in words.now)) result }
-{
-    if asks_for_shortest(words) {
-        return None;
-    }
-    Some(Invocation::RecoverablePlan {
-        table: plan_table(words)?,
-        processes: optional_number(words, "processes")?,
-        form: answer_form(words)?,
     })
 }
 
