@@ -121,7 +121,8 @@ def told_event(lives, world, p, is_crash):
     """What `agree --recoverable` tells of an event in a world: in words, and as JSON without the process."""
     objects, registers, known = world
     if is_crash:
-        return "crashes", {"action": "crash"}
+        forgets = {"decision": known[p][0]} if len(known[p]) == 1 else {"node": lives.paths[p][known[p][0]][0], "value": known[p][1]}
+        return "crashes", {"action": "crash", "forgets": forgets}
     if len(known[p]) == 1:
         return "has decided", {"action": "none"}
     place, value, stage = known[p]
@@ -135,8 +136,9 @@ def told_event(lives, world, p, is_crash):
         judged = "AB"[state not in lives.left_by_a]
         return f"reads {kind.states[state]} at node {node}: team {judged}", {"action": "read", "judged": judged, "node": node, "state": kind.states[state]}
     if stage == ACT:
-        operation, response = kind.operations[lives.operations[role]], kind.responses[kind.act(lives.operations[role], state)[0]]
-        told = {"action": "apply", "node": node, "operation": operation, "response": response}
+        given, after = kind.act(lives.operations[role], state)
+        operation, response = kind.operations[lives.operations[role]], kind.responses[given]
+        told = {"action": "apply", "after": kind.states[after], "before": kind.states[state], "node": node, "operation": operation, "response": response}
         return f"applies {operation} at node {node}: {response}", told
     source = 1 - team if stage == PEEK else stage - TAKE_A
     found = registers[2 * node + source]

@@ -297,9 +297,11 @@ class World:
             return WRITE, number, team, value
         if stage == APPLY:
             operation = node.operation(process)
-            response, self.states[number] = self.tree.table.act(operation, self.states[number])
+            before = self.states[number]
+            response, self.states[number] = self.tree.table.act(operation, before)
             self.locals[process] = place, value, TAKE if node.sight == BLIND else LOOK, response, NOTHING
-            return APPLY, number, operation, response, self.tree.judges[number, process][response, NOTHING] if node.sight == BLIND else None
+            judged = self.tree.judges[number, process][response, NOTHING] if node.sight == BLIND else None
+            return APPLY, number, operation, response, before, self.states[number], judged
         if stage == LOOK:
             saw = seen(self.tree.table, node.sight, self.states[number])
             self.locals[process] = place, value, TAKE, response, saw
@@ -402,9 +404,9 @@ def told_step(tree, process, action):
     if stage == WRITE:
         return {"action": "write", "node": node, "process": process, "team": rest[0], "value": rest[1]}
     if stage == APPLY:
-        operation, response, judged = rest
-        judges = {} if judged is None else {"judged": judged}
-        return {"action": "apply", **judges, "node": node, "operation": table.operations[operation], "process": process, "response": table.responses[response]}
+        operation, response, before, after, judged = rest
+        moved = {"after": table.states[after], "before": table.states[before], **({} if judged is None else {"judged": judged})}
+        return {"action": "apply", **moved, "node": node, "operation": table.operations[operation], "process": process, "response": table.responses[response]}
     if stage == LOOK:
         saw, judged = tree.nodes[node].seen(table, rest[0]), rest[1]
         look = tree.nodes[node].look()

@@ -28,14 +28,16 @@ taking places i node team y = if nat_lt (i + 1) places then acts.Take node team 
 
 -- the action of a process at this place with this value, at place i of this many and with this
 -- node: it writes its value to the register of its team; it applies the operation of its role, with
--- this response; it reads the state, and judges by state and response which team came first; it
--- takes the value in the register of this team
+-- this response and these states before and after; it reads the state, and judges by state and
+-- response which team came first; it takes the value in the register of this team
 abbrev pub action_at : {V : Type 0} → Plan → ℕ → ℕ → Place → V → Stage → Node V → Option (Action V)
 action_at plan places i here x Write node = Some (acts.Write here.node here.team x)
 action_at plan places i here x Apply node =
     Some (acts.Apply here.node
     (record { 0 = slice_index (raw_choice_of plan.choice).operations here.role })
-    (record { 0 = ((protocol_of plan).act here.role node.state.0).0 }))
+    (record { 0 = ((protocol_of plan).act here.role node.state.0).0 })
+    node.state
+    (record { 0 = ((protocol_of plan).act here.role node.state.0).1 }))
 action_at plan places i here x (Read response) node =
     Some (acts.Read here.node node.state
     ((protocol_of plan).judge here.role response.0 node.state.0))
@@ -76,11 +78,12 @@ pub record Course : Type 0 where
 
 -- ---- operations, responses and states
 
--- the operation, the response and the state are of the table
+-- the operation, the response and the states are of the table
 abbrev pub IsOfTable : {V : Type 0} → TypeTable → Action V → Type 0
 IsOfTable t (acts.Write node team x) = Unit {0}
-IsOfTable t (acts.Apply node operation response) =
+IsOfTable t (acts.Apply node operation response before after) =
     (operation.0 < length t.operations) × (response.0 < length t.responses)
+    × (before.0 < length t.states) × (after.0 < length t.states)
 IsOfTable t (acts.Read node state team) = state.0 < length t.states
 IsOfTable t (acts.Take node team x) = Unit {0}
 IsOfTable t (acts.Decide x) = Unit {0}

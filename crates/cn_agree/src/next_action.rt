@@ -19,11 +19,14 @@ pub enum Action<V> {
         team: Team,
         value: V,
     },
-    /// It applies its operation to the object of a node, and gets this response.
+    /// It applies its operation to the object of a node, and gets this response. The object is in
+    /// these states before the operation and after it.
     Apply {
         node: u8,
         operation: Operation,
         response: Response,
+        before: State,
+        after: State,
     },
     /// It reads this state of the object of a node, and judges that this team came first there.
     Read {
@@ -81,11 +84,13 @@ pub(crate) fn action_at<V: Copy>(
             value,
         }),
         Stage::Apply => {
-            let (response, _) = plan.act(here.role, node.state);
+            let (response, after) = plan.act(here.role, node.state);
             Some(Action::Apply {
                 node: at,
                 operation: plan.operation(here.role),
                 response,
+                before: node.state,
+                after,
             })
         }
         Stage::Read(response) => Some(Action::Read {

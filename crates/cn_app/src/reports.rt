@@ -37,7 +37,7 @@ pub use agree::{AskedRun, agree_report};
 pub use agree_shortest::agree_shortest_report;
 pub use changes::{AskedChanges, changes_report};
 pub use classify::{AskedNumbers, check_limit, classification_of, head_report, numbers_report};
-pub use cn_changes::NumberKind;
+pub use cn_changes::{NumberKind, Progress};
 pub use draw::draw_report;
 pub use explain::explain_report;
 pub use explain_stocks::explain_stocks_report;

@@ -5,6 +5,7 @@ use Rattle.std.proofs.lemmas.List.{length-set}
 use Rattle.std.proofs.lemmas.List.Elements.{All-from_recursion}
 use Rattle.cn_table.specs.TypeTable.{TypeTable}
 use Rattle.cn_changes.specs.Changes.{IsChange, IsTarget, change_if_other, changes_of, changes_to, is_other, target, targets_in, targets_of, targets_of_operation, with_change}
+use Rattle.cn_changes.specs.Served.{LeadsTo}
 use Rattle.cn_changes.specs.Pairs.{change_pairs, is_before, pair_with, pairs_with}
 use Rattle.cn_changes.specs.declared.change.Change.{Change}
 use Rattle.cn_changes.specs.declared.pairs.ChangePair.{ChangePair}
@@ -31,6 +32,14 @@ each_change t x is = each_in_range (IsChange t) (change_if_other t x) (length t.
 
 pub changes_known : (t : TypeTable) (x : Target) → IsTarget t x → All (IsChange t) (changes_to t x)
 changes_known t x is = All-from_recursion (IsChange t) (changes_to t x) (each_change t x is)
+
+leads : (t : TypeTable) (x : Target) (r : ℕ) (b : Bool) → b ≡ is_other t x r → AllByRecursion (LeadsTo x) (change_if_other t x r)
+leads t x r true e = rw (← e) (refl, tt)
+leads t x r false e = rw (← e) tt
+
+pub changes_lead : (t : TypeTable) (x : Target) → All (LeadsTo x) (changes_to t x)
+changes_lead t x =
+    All-from_recursion (LeadsTo x) (changes_to t x) (each_in_range (LeadsTo x) (change_if_other t x) (length t.responses) (λ r l. leads t x r (is_other t x r) refl))
 
 -- a change of the type is one of the type with another change
 pub still_known : (t : TypeTable) (c d : Change) → IsChange t d → IsChange (with_change t c) d

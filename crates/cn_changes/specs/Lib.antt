@@ -1,5 +1,6 @@
 pub mod Changes
 pub mod Kinds
+pub mod Served
 pub mod Less
 pub mod Told
 pub mod Rests

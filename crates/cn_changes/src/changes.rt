@@ -7,6 +7,7 @@ ghost use Rattle.cn_changes.specs.Told.{AreAllNumbers, AreNextNumbers};
 
 use crate::kind::{NumberKind, number_of};
 use crate::numbers::{NextNumbers, next_numbers};
+use crate::progress::Progress;
 use crate::targets::{Target, targets_of};
 use cn_search::{Threading, with_fallback};
 use cn_table::Table;
@@ -27,12 +28,13 @@ pub struct Changes {
 }
 
 /// These entries and next states, each with its numbers. The threads share them.
-fn numbers_in<T: Threads + Sync>(
+fn numbers_in<T: Threads + Sync, P: Progress + Sync>(
     rt: &T,
     alloc: Global,
     table: &Table,
     kind: NumberKind,
     targets: &[Target],
+    progress: &P,
     threading: Threading,
 ) -> Result<Vec<NextNumbers>, AllocError>
     requires { All (IsTarget table.now) targets.now }
@@ -47,19 +49,24 @@ fn numbers_in<T: Threads + Sync>(
                 requires { IsTarget table.now target.now }
                 ensures { IfOk result (λ told. (told.target ≡ target.now)
                     × AreNextNumbers kind table.entry.now told) }
-            { next_numbers(rt, alloc, table, kind, *target) },
+            {
+                let told = next_numbers(rt, alloc, table, kind, *target);
+                progress.step();
+                told
+            },
         )
         .collect::<Result<Vec<NextNumbers>, AllocError>>(rt, alloc)?
 }
 
 /// These entries and next states, each with its numbers, in several threads, or in one if these get
 /// too little memory.
-fn numbers_of<T: Threads + Sync>(
+fn numbers_of<T: Threads + Sync, P: Progress + Sync>(
     rt: &T,
     alloc: Global,
     table: &Table,
     kind: NumberKind,
     targets: &[Target],
+    progress: &P,
 ) -> Result<Vec<NextNumbers>, AllocError>
     requires { All (IsTarget table.now) targets.now }
     ensures { IfOk result (λ nexts. AllZip
@@ -72,20 +79,25 @@ fn numbers_of<T: Threads + Sync>(
             ensures { IfOk result (λ nexts. AllZip
                 (λ x told. (told.target ≡ x) × AreNextNumbers kind table.entry.now told)
                 targets.entry.now nexts.items) }
-        { numbers_in(rt, alloc, table, kind, targets, threading) },
+        {
+            progress.begin(targets.len());
+            numbers_in(rt, alloc, table, kind, targets, progress, threading)
+        },
     )
 }
 
-/// The number of a type, and its numbers with each change of one entry.
+/// The number of a type, and its numbers with each change of one entry. The progress is told of each
+/// entry with each next state.
 ///
 /// # Errors
 ///
 /// `AllocError` if memory is too little for one thread.
-pub fn changes_of<T: Threads + Sync>(
+pub fn changes_of<T: Threads + Sync, P: Progress + Sync>(
     rt: &T,
     alloc: Global,
     table: &Table,
     kind: NumberKind,
+    progress: &P,
 ) -> Result<Changes, AllocError>
     // promise: numbers-of-changes
     ensures kind { IfOk result (λ c. c.kind ≡ kind) }
@@ -96,7 +108,7 @@ pub fn changes_of<T: Threads + Sync>(
 {
     let number = number_of(rt, alloc, table, kind)?;
     let targets = targets_of(alloc, table)?;
-    let nexts = numbers_of(rt, alloc, table, kind, targets.as_slice())?;
+    let nexts = numbers_of(rt, alloc, table, kind, targets.as_slice(), progress)?;
     Ok(Changes {
         kind,
         number,

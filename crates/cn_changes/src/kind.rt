@@ -22,7 +22,7 @@ pub enum NumberKind {
 }
 
 /// An exact number as what is known of one.
-fn exactly(number: ConsensusNumber) -> NumberBounds
+pub(crate) fn exactly(number: ConsensusNumber) -> NumberBounds
     ensures { result ≡ as_bounds number }
 {
     match number {

@@ -6,7 +6,7 @@
 //! lists the changes that raise the number. [`pair_numbers`] goes on to two changes at once.
 //!
 //! ```text
-//! let changes = changes_of(rt, alloc, &table, NumberKind::Consensus)?;
+//! let changes = changes_of(rt, alloc, &table, NumberKind::Consensus, &Untold)?;
 //! for raise in raises_of(alloc, changes.number, changes.nexts.as_slice())?.as_slice() {
 //!     let target = raise.target;
 //!     let operation = table.operation_name(target.operation);
@@ -25,6 +25,7 @@ pub mod laws;
 mod less;
 mod numbers;
 mod pairs;
+mod progress;
 mod raises;
 mod rests;
 mod targets;
@@ -37,6 +38,7 @@ pub use kind::{NumberKind, number_of};
 pub use less::{is_less, is_same};
 pub use numbers::{ChangeNumber, NextNumbers, agreed, number_with};
 pub use pairs::{ChangePair, MOST_PAIRS, PairNumber, PairNumbers, pair_numbers};
+pub use progress::{Progress, Untold};
 pub use raises::{Raise, raises_of};
 pub use rests::rests_on;
 pub use targets::Target;

@@ -4,13 +4,17 @@ ghost use Rattle.std.specs.List.{list_all};
 ghost use Rattle.cn_changes.specs.Changes.{IsChange, IsTarget, with_change};
 ghost use Rattle.cn_changes.specs.Kinds.{HasNumberOf};
 ghost use Rattle.cn_changes.specs.Less.{same_bounds};
+ghost use Rattle.cn_changes.specs.Served.{AreServed, LeadsTo};
 ghost use Rattle.cn_changes.specs.Told.{AreNextNumbers, AreNumbersOf, agreed};
+ghost use Rattle.cn_search.specs.Nexts.{Serves};
 
 use crate::change::{Change, changes_to};
-use crate::kind::{NumberKind, number_of};
+use crate::kind::{NumberKind, exactly, number_of};
 use crate::less::is_same;
 use crate::targets::Target;
-use cn_table::Table;
+use cn_search::laws::searches_serve_other_responses;
+use cn_search::{NextsSearch, consensus_number_by, search_nexts};
+use cn_table::{Table, entry_makes_a_table, laws};
 use cn_unread_number::NumberBounds;
 use std::alloc::{AllocError, Global};
 use std::thread::Threads;
@@ -53,20 +57,71 @@ pub fn number_with<T: Threads + Sync>(
     number_of(rt, alloc, &changed, kind)
 }
 
-/// These changes, each with its number.
+/// What one search tells of the consensus numbers of the type with each of these changes, which lead
+/// to one next state.
+fn shared_search<T: Threads + Sync>(
+    rt: &T,
+    alloc: Global,
+    table: &Table,
+    kind: NumberKind,
+    target: Target,
+    changes: &[Change],
+) -> Result<Option<NextsSearch>, AllocError>
+    requires known { All (IsChange table.now) changes.now }
+    requires target { All (LeadsTo target) changes.now }
+    ensures { IfOk result (λ searched. AreServed table.now changes.now searched) }
+{
+    entry_makes_a_table();
+    searches_serve_other_responses();
+    let _target = target;
+    let Some(first) = changes.first() else {
+        return Ok(None);
+    };
+    if kind != NumberKind::Consensus {
+        return Ok(None);
+    }
+    let changed = first.table(alloc, table)?;
+    laws::tables_are_valid(table);
+    search_nexts(rt, alloc, &changed)
+}
+
+/// The number of the type with a change, by a search that serves for its consensus number.
+fn number_by<T: Threads + Sync>(
+    rt: &T,
+    alloc: Global,
+    table: &Table,
+    kind: NumberKind,
+    change: Change,
+    searched: &Option<NextsSearch>,
+) -> Result<NumberBounds, AllocError>
+    requires known { IsChange table.now change }
+    requires served { Serves (with_change table.now change) searched.now }
+    ensures { IfOk result (HasNumberOf kind (with_change table.now change)) }
+{
+    if kind != NumberKind::Consensus {
+        return number_with(rt, alloc, table, kind, change);
+    }
+    let changed = change.table(alloc, table)?;
+    let number = consensus_number_by(rt, alloc, &changed, searched)?;
+    Ok(exactly(number))
+}
+
+/// These changes, each with its number, by a search that serves for their consensus numbers.
 fn numbers_of<T: Threads + Sync>(
     rt: &T,
     alloc: Global,
     table: &Table,
     kind: NumberKind,
     changes: &[Change],
+    searched: &Option<NextsSearch>,
 ) -> Result<Vec<ChangeNumber>, AllocError>
-    requires { All (IsChange table.now) changes.now }
+    requires known { All (IsChange table.now) changes.now }
+    requires served { AreServed table.now changes.now searched.now }
     ensures { IfOk result (λ told. AreNumbersOf kind table.now changes.now told.items) }
 {
     let mut told = Vec::new(alloc);
     for change in changes {
-        let number = number_with(rt, alloc, table, kind, *change)?;
+        let number = number_by(rt, alloc, table, kind, *change, searched)?;
         told.push(ChangeNumber {
             change: *change,
             number,
@@ -75,7 +130,8 @@ fn numbers_of<T: Threads + Sync>(
     Ok(told)
 }
 
-/// The numbers of a type whose entry leads to this next state.
+/// The numbers of a type whose entry leads to this next state. One search of the next states tells a
+/// part of the consensus numbers with all responses.
 pub(crate) fn next_numbers<T: Threads + Sync>(
     rt: &T,
     alloc: Global,
@@ -88,7 +144,9 @@ pub(crate) fn next_numbers<T: Threads + Sync>(
     ensures numbers { IfOk result (AreNextNumbers kind table.now) }
 {
     let changes = changes_to(alloc, table, target)?;
-    let numbers = numbers_of(rt, alloc, table, kind, changes.as_slice())?;
+    let listed = changes.as_slice();
+    let searched = shared_search(rt, alloc, table, kind, target, listed)?;
+    let numbers = numbers_of(rt, alloc, table, kind, listed, &searched)?;
     Ok(NextNumbers { target, numbers })
 }
 

@@ -11,6 +11,7 @@ use crate::greatest::{GREATEST_RANK, Numbered, greatest_first};
 use crate::kind::NumberKind;
 use crate::less::is_less;
 use crate::numbers::number_with;
+use crate::progress::Progress;
 use cn_search::{Threading, with_fallback};
 use cn_table::Table;
 use cn_unread_number::NumberBounds;
@@ -151,12 +152,13 @@ fn number_with_both<T: Threads + Sync>(
 }
 
 /// These pairs, each with the number of the type with both. The threads share them.
-fn numbers_in<T: Threads + Sync>(
+fn numbers_in<T: Threads + Sync, P: Progress + Sync>(
     rt: &T,
     alloc: Global,
     table: &Table,
     kind: NumberKind,
     pairs: &[ChangePair],
+    progress: &P,
     threading: Threading,
 ) -> Result<Vec<PairNumber>, AllocError>
     requires { All (λ pair. IsChange table.now pair.first × IsChange table.now pair.second) pairs.now }
@@ -171,19 +173,24 @@ fn numbers_in<T: Threads + Sync>(
                 requires { IsChange table.now pair.now.first × IsChange table.now pair.now.second }
                 ensures { IfOk result (λ one. (one.pair ≡ pair.now)
                     × HasNumberOf kind (with_both table.entry.now one.pair) one.number) }
-            { number_with_both(rt, alloc, table, kind, *pair) },
+            {
+                let told = number_with_both(rt, alloc, table, kind, *pair);
+                progress.step();
+                told
+            },
         )
         .collect::<Result<Vec<PairNumber>, AllocError>>(rt, alloc)?
 }
 
 /// These pairs, each with the number of the type with both, in several threads, or in one if these get
 /// too little memory.
-fn numbers_of<T: Threads + Sync>(
+fn numbers_of<T: Threads + Sync, P: Progress + Sync>(
     rt: &T,
     alloc: Global,
     table: &Table,
     kind: NumberKind,
     pairs: &[ChangePair],
+    progress: &P,
 ) -> Result<Vec<PairNumber>, AllocError>
     requires { All (λ pair. IsChange table.now pair.first × IsChange table.now pair.second) pairs.now }
     ensures { IfOk result (λ told. AllZip (λ pair one. (one.pair ≡ pair)
@@ -197,7 +204,10 @@ fn numbers_of<T: Threads + Sync>(
             ensures { IfOk result (λ told. AllZip (λ pair one. (one.pair ≡ pair)
                 × HasNumberOf kind (with_both table.entry.now one.pair) one.number)
                 pairs.entry.now told.items) }
-        { numbers_in(rt, alloc, table, kind, pairs, threading) },
+        {
+            progress.begin(pairs.len());
+            numbers_in(rt, alloc, table, kind, pairs, progress, threading)
+        },
     )
 }
 
@@ -219,17 +229,18 @@ fn raising_of(
 }
 
 /// The pairs of changes of two entries that raise the number of a type: of the first [`MOST_PAIRS`]
-/// pairs, by the first change, by the second.
+/// pairs, by the first change, by the second. The progress is told of each pair.
 ///
 /// # Errors
 ///
 /// `AllocError` if memory is too little for one thread.
-pub fn pair_numbers<T: Threads + Sync>(
+pub fn pair_numbers<T: Threads + Sync, P: Progress + Sync>(
     rt: &T,
     alloc: Global,
     table: &Table,
     kind: NumberKind,
     number: NumberBounds,
+    progress: &P,
 ) -> Result<PairNumbers, AllocError>
     // promise: numbers-of-changes (ArePairNumbers)
     ensures { IfOk result (ArePairNumbers kind table.now number) }
@@ -237,7 +248,7 @@ pub fn pair_numbers<T: Threads + Sync>(
     let pairs = pairs_of(alloc, table)?;
     let is_cut = are_more(pairs.len());
     let tried = front_of(pairs.as_slice());
-    let told = numbers_of(rt, alloc, table, kind, tried)?;
+    let told = numbers_of(rt, alloc, table, kind, tried, progress)?;
     let raising = raising_of(alloc, number, told.as_slice())?;
     let raising = greatest_first(alloc, GREATEST_RANK, raising.as_slice())?;
     Ok(PairNumbers { raising, is_cut })

@@ -31,16 +31,18 @@ idle_data process =
     object (member (codes "action") (text_data (codes "none"))
     (member (codes "process") (number_data process) no_members))
 
--- an action of a process: it uses a register, applies its operation and gets a response, reads a
--- state and judges that a team came first, or decides
+-- an action of a process: it uses a register, applies its operation between two states and gets a
+-- response, reads a state and judges that a team came first, or decides
 abbrev pub action_data : TypeTable → ℕ → Action ℕ → Data
 action_data t process (Write node team value) = register_data (codes "write") node process team value
-action_data t process (Apply node operation response) =
+action_data t process (Apply node operation response before after) =
     object (member (codes "action") (text_data (codes "apply"))
+    (member (codes "after") (state_data t after)
+    (member (codes "before") (state_data t before)
     (member (codes "node") (number_data node)
     (member (codes "operation") (operation_data t operation)
     (member (codes "process") (number_data process)
-    (member (codes "response") (response_data t response) no_members)))))
+    (member (codes "response") (response_data t response) no_members)))))))
 action_data t process (Read node state judged) =
     object (member (codes "action") (text_data (codes "read"))
     (member (codes "judged") (text_data (team_name judged))

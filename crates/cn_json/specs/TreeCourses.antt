@@ -1,5 +1,5 @@
 -- The steps of a schedule along a plan tree, and the decisions after it, as JSON values.
-use Rattle.std.specs.Prelude.{ℕ, List, Option, Some, None, codes}
+use Rattle.std.specs.Prelude.{ℕ, ◌<◌, List, Option, Some, None, codes, length}
 use Rattle.serde_json.specs.Data.{Data, object, member, no_members}
 use Rattle.cn_table.specs.TypeTable.{TypeTable}
 use Rattle.cn_table.specs.declared.elements.Operation.{Operation}
@@ -11,6 +11,7 @@ use Rattle.cn_tree_rounds.specs.declared.action.StepRecord.{StepRecord}
 use Rattle.cn_json.specs.Course.{decision_data, idle_data}
 use Rattle.cn_json.specs.Names.{operation_data, response_data, state_data}
 use Rattle.cn_json.specs.Values.{list_data, number_data, text_data}
+use Rattle.cn_json.specs.declared.tree_course.Applied.{Applied}
 
 -- a process uses the register of a team
 abbrev pub team_register_data : List ℕ → ℕ → ℕ → ℕ → ℕ → Data
@@ -21,21 +22,31 @@ team_register_data action node process team value =
     (member (codes "team") (number_data team)
     (member (codes "value") (number_data value) no_members)))))
 
--- a process applies its operation, and gets a response; where it does not look, it judges by it
-abbrev pub apply_data : TypeTable → ℕ → ℕ → Operation → Response → Option ℕ → Data
-apply_data t process node operation response None =
+-- the operation, the response and the states are of the table
+abbrev pub IsAppliedIn : TypeTable → Applied → Type 0
+IsAppliedIn t x = (x.operation.0 < length t.operations) × (x.response.0 < length t.responses)
+    × (x.before.0 < length t.states) × (x.after.0 < length t.states)
+
+-- a process applies its operation between two states, and gets a response; where it does not look,
+-- it judges by it
+abbrev pub apply_data : TypeTable → Applied → Option ℕ → Data
+apply_data t x None =
     object (member (codes "action") (text_data (codes "apply"))
-    (member (codes "node") (number_data node)
-    (member (codes "operation") (operation_data t operation)
-    (member (codes "process") (number_data process)
-    (member (codes "response") (response_data t response) no_members)))))
-apply_data t process node operation response (Some judged) =
+    (member (codes "after") (state_data t x.after)
+    (member (codes "before") (state_data t x.before)
+    (member (codes "node") (number_data x.node)
+    (member (codes "operation") (operation_data t x.operation)
+    (member (codes "process") (number_data x.process)
+    (member (codes "response") (response_data t x.response) no_members)))))))
+apply_data t x (Some judged) =
     object (member (codes "action") (text_data (codes "apply"))
+    (member (codes "after") (state_data t x.after)
+    (member (codes "before") (state_data t x.before)
     (member (codes "judged") (number_data judged)
-    (member (codes "node") (number_data node)
-    (member (codes "operation") (operation_data t operation)
-    (member (codes "process") (number_data process)
-    (member (codes "response") (response_data t response) no_members))))))
+    (member (codes "node") (number_data x.node)
+    (member (codes "operation") (operation_data t x.operation)
+    (member (codes "process") (number_data x.process)
+    (member (codes "response") (response_data t x.response) no_members))))))))
 
 -- a process looks by an operation that changes nothing, and judges by the response
 abbrev pub look_data : TypeTable → ℕ → ℕ → Operation → Response → ℕ → Data
@@ -52,8 +63,16 @@ look_data t process node operation response judged =
 abbrev pub tree_action_data : TypeTable → ℕ → Action → Data
 tree_action_data t process (Write node team value) =
     team_register_data (codes "write") node process team value
-tree_action_data t process (Apply node operation response team) =
-    apply_data t process node operation response team
+tree_action_data t process (Apply node operation response before after team) = apply_data t
+    (record {
+      process = process;
+      node = node;
+      operation = operation;
+      response = response;
+      before = before;
+      after = after;
+    })
+    team
 tree_action_data t process (Read node state judged) =
     object (member (codes "action") (text_data (codes "read"))
     (member (codes "judged") (number_data judged)

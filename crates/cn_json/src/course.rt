@@ -100,8 +100,12 @@ pub(crate) fn write_action(
             node,
             operation,
             response,
+            before,
+            after,
         } => out.object(&[
             ("action", Text("apply")),
+            ("after", Text(table.state_name(after))),
+            ("before", Text(table.state_name(before))),
             ("node", Byte(node)),
             ("operation", Text(table.operation_name(operation))),
             ("process", Byte(process)),
@@ -171,7 +175,8 @@ pub fn decisions_json(alloc: Global, decisions: &[Option<u64>]) -> Result<String
 ///
 /// - `write` and `take`: the process writes its `value` to the register of its `team` at a `node`,
 ///   or takes it from there;
-/// - `apply`: it applies its `operation` to the object of a `node`, and gets this `response`;
+/// - `apply`: it applies its `operation` to the object of a `node`, and gets this `response`; the
+///   object is in the states `before` and `after`;
 /// - `read`: it reads the `state` of the object of a `node`, and judges that the team `judged` came
 ///   first there;
 /// - `decide`: it decides the `value`;

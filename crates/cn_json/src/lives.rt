@@ -2,16 +2,38 @@
 ghost use Rattle.std.specs.Prelude.{◌≡◌, IfOk, string_bytes};
 ghost use Rattle.serde_json.specs.Written.{compact_text};
 ghost use Rattle.cn_lives.specs.Courses.{AreOfTable, IsOfTable};
-ghost use Rattle.cn_json.specs.Lives.{life_course_data, life_step_data};
+ghost use Rattle.cn_json.specs.Lives.{crash_data, life_course_data, life_step_data, memory_data};
 ghost use Rattle.cn_json.specs.Tokens.{Appends, value_tokens};
 
 use crate::course::{begin_with_decisions, write_action, write_idle};
 use crate::json_text::JsonText;
-use crate::json_text::Primitive::{Byte, Null, Text};
+use crate::json_text::Primitive::{Byte, Null, Number, Text};
 use crate::value::JsonValue;
-use cn_lives::{LifeAction, LifeCourse, LifeRecord};
+use cn_lives::{LifeAction, LifeCourse, LifeRecord, Memory};
 use cn_table::Table;
 use std::alloc::{AllocError, Global};
+
+fn write_memory(out: &mut JsonText, memory: Memory) -> Result<(), AllocError>
+    ensures { Appends result out.old out.new (value_tokens (memory_data memory)) }
+{
+    match memory {
+        Memory::Value { node, value } => {
+            out.object(&[("node", Byte(node)), ("value", Number(value))])
+        }
+        Memory::Decision { value } => out.object(&[("decision", Number(value))]),
+    }
+}
+
+/// Writes that a process crashes, and what it forgets.
+fn write_crash(out: &mut JsonText, process: u8, forgets: Memory) -> Result<(), AllocError>
+    ensures { Appends result out.old out.new (value_tokens (crash_data process forgets)) }
+{
+    out.begin_object()?;
+    out.member("action", Text("crash"))?;
+    out.key("forgets")?;
+    write_memory(out, forgets)?;
+    out.last_members(&[("process", Byte(process))])
+}
 
 impl JsonValue for LifeRecord {
     ghost IsKnown = { λ t event. IsOfTable t event.action };
@@ -37,9 +59,7 @@ impl JsonValue for LifeRecord {
                 ("value", Null),
             ]),
             LifeAction::HasDecided => write_idle(out, process),
-            LifeAction::Crash => {
-                out.object(&[("action", Text("crash")), ("process", Byte(process))])
-            }
+            LifeAction::Crash { forgets } => write_crash(out, process, forgets),
         }
     }
 }
@@ -63,7 +83,8 @@ fn write_life_course(
 /// operations, responses and states of the steps are those of the table. Beside the actions of
 /// [`course_json`](crate::course_json) there are these:
 ///
-/// - `crash`: the process crashes, and begins again with its input;
+/// - `crash`: the process crashes, and begins again with its input. It `forgets` the `value` with
+///   which it is at a `node`, or its `decision`;
 /// - `read` with `judged` null: before its operation the process reads the `state` of the object of
 ///   a `node`, which is the start state;
 /// - `take` with `value` null: it reads the register of a `team` at a `node`, which is empty.

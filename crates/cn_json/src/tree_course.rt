@@ -3,13 +3,13 @@ ghost use Rattle.std.specs.Prelude.{◌≡◌, ◌<◌, IfOk, IfSome, length, st
 ghost use Rattle.serde_json.specs.Written.{compact_text};
 ghost use Rattle.cn_tree_rounds.specs.Actions.{AreOfTable, IsOfTable};
 ghost use Rattle.cn_json.specs.Tokens.{Appends, value_tokens};
-ghost use Rattle.cn_json.specs.TreeCourses.{apply_data, look_data, team_register_data, tree_action_data, tree_course_data, tree_step_data};
+ghost use Rattle.cn_json.specs.TreeCourses.{IsAppliedIn, apply_data, look_data, team_register_data, tree_action_data, tree_course_data, tree_step_data};
 
 use crate::course::{begin_with_decisions, write_idle};
 use crate::json_text::JsonText;
 use crate::json_text::Primitive::{Byte, Number, Text};
 use crate::value::JsonValue;
-use cn_table::{Operation, Response, Table};
+use cn_table::{Operation, Response, State, Table};
 use cn_tree_rounds::{Action, Course, StepRecord};
 use std::alloc::{AllocError, Global};
 
@@ -34,39 +34,53 @@ fn write_team_register(
     ])
 }
 
-/// Writes that a process applies its operation; where it does not look, it judges by the response.
-fn write_apply(
-    out: &mut JsonText,
-    table: &Table,
+/// An operation that a process applies to the object of a node: the response, and the states before
+/// and after it.
+#[derive(Clone, Copy)]
+pub(crate) struct Applied {
     process: u8,
     node: u8,
     operation: Operation,
     response: Response,
+    before: State,
+    after: State,
+}
+
+/// Writes that a process applies its operation; where it does not look, it judges by the response.
+fn write_apply(
+    out: &mut JsonText,
+    table: &Table,
+    applied: Applied,
     judged: Option<u8>,
 ) -> Result<(), AllocError>
-    requires operation { operation.0 < length table.now.operations }
-    requires response { response.0 < length table.now.responses }
+    requires { IsAppliedIn table.now applied }
     ensures { Appends result out.old out.new
-        (value_tokens (apply_data table.now process node operation response judged)) }
+        (value_tokens (apply_data table.now applied judged)) }
 {
-    let (done, given) = (
-        table.operation_name(operation),
-        table.response_name(response),
+    let (before, after) = (
+        table.state_name(applied.before),
+        table.state_name(applied.after),
     );
+    let done = table.operation_name(applied.operation);
+    let given = table.response_name(applied.response);
     match judged {
         Some(judged) => out.object(&[
             ("action", Text("apply")),
+            ("after", Text(after)),
+            ("before", Text(before)),
             ("judged", Byte(judged)),
-            ("node", Byte(node)),
+            ("node", Byte(applied.node)),
             ("operation", Text(done)),
-            ("process", Byte(process)),
+            ("process", Byte(applied.process)),
             ("response", Text(given)),
         ]),
         None => out.object(&[
             ("action", Text("apply")),
-            ("node", Byte(node)),
+            ("after", Text(after)),
+            ("before", Text(before)),
+            ("node", Byte(applied.node)),
             ("operation", Text(done)),
-            ("process", Byte(process)),
+            ("process", Byte(applied.process)),
             ("response", Text(given)),
         ]),
     }
@@ -119,8 +133,20 @@ fn write_tree_action(
             node,
             operation,
             response,
+            before,
+            after,
             team,
-        } => write_apply(out, table, process, node, operation, response, team),
+        } => {
+            let applied = Applied {
+                process,
+                node,
+                operation,
+                response,
+                before,
+                after,
+            };
+            write_apply(out, table, applied, team)
+        }
         Action::Read { node, state, team } => out.object(&[
             ("action", Text("read")),
             ("judged", Byte(team)),

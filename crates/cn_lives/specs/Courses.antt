@@ -18,6 +18,8 @@ use Rattle.cn_lives.specs.declared.life_action.LifeAction.{LifeAction}
 use Rattle.cn_lives.specs.declared.life_action.LifeAction.TheVariants.{Common, ReadStart, ReadEmpty}
 use Rattle.cn_lives.specs.declared.life_action.LifeAction.TheVariants.{HasDecided, Crash}
 use Rattle.cn_lives.specs.declared.life_action.LifeRecord.{LifeRecord}
+use Rattle.cn_lives.specs.declared.life_action.Memory.{Memory}
+use Rattle.cn_lives.specs.declared.life_action.Memory.TheVariants.{Value, Decision}
 use Rattle.cn_lives.specs.declared.local.Local.{Local}
 use Rattle.cn_lives.specs.declared.local.Local.TheVariants.{Active, Decided}
 use Rattle.cn_lives.specs.declared.local.Stage.{Stage}
@@ -47,7 +49,9 @@ action_at p places i x Look here q held = look p here.node q
 action_at p places i x Peek here q held = take_if places i here.node B (held B)
 action_at p places i x Act here q held = Common (acts.Apply here.node
     (record { 0 = slice_index (raw_choice_of p.plan.choice).operations here.role })
-    (record { 0 = ((protocol_of p.plan).act here.role q).0 }))
+    (record { 0 = ((protocol_of p.plan).act here.role q).0 })
+    (record { 0 = q })
+    (record { 0 = ((protocol_of p.plan).act here.role q).1 }))
 action_at p places i x Again here q held =
     Common (acts.Read here.node (record { 0 = q }) (judge p q))
 action_at p places i x (Take side) here q held = take_if places i here.node side (held side)
@@ -64,12 +68,22 @@ action_from p w q (Decided y) = HasDecided
 abbrev pub action_of : RecordingPlan → World → ℕ → LifeAction
 action_of p w q = action_from p w q (local_at w q)
 
+-- what process q remembers with this local state: the value with which it is at a node, or the
+-- value that it has decided
+abbrev pub memory_from : RecordingPlan → ℕ → Local → Memory
+memory_from p q (Active i x stage) = Value (place_of (protocol_of p.plan) q i).node x
+memory_from p q (Decided y) = Decision y
+
+-- what process q remembers
+abbrev pub memory_of : RecordingPlan → World → ℕ → Memory
+memory_of p w q = memory_from p q (local_at w q)
+
 -- ---- a schedule
 
--- what an event does
+-- what an event does: a process takes its next action, or crashes and forgets what it remembers
 abbrev pub event_action : RecordingPlan → World → Event → LifeAction
 event_action p w (Step q) = action_of p w q
-event_action p w (CrashEvent q) = Crash
+event_action p w (CrashEvent q) = Crash (memory_of p w q)
 
 -- what each event of a schedule does, from a world on
 abbrev pub records_from : RecordingPlan → List Event → World → List LifeRecord
@@ -88,13 +102,13 @@ pub record LifeCourse : Type 0 where
 
 -- ---- operations, responses and states
 
--- the operation, the response and the state are of the table
+-- the operation, the response and the states are of the table
 abbrev pub IsOfTable : TypeTable → LifeAction → Type 0
 IsOfTable t (Common action) = IsActionOfTable t action
 IsOfTable t (ReadStart node state) = state.0 < length t.states
 IsOfTable t (ReadEmpty node team) = Unit {0}
 IsOfTable t HasDecided = Unit {0}
-IsOfTable t Crash = Unit {0}
+IsOfTable t (Crash forgets) = Unit {0}
 
 -- the same for each event of a schedule
 abbrev pub AreOfTable : TypeTable → List LifeRecord → Type 0

@@ -44,7 +44,9 @@ fn event_action(plan: &RecordingPlan, lives: &Lives, event: Event) -> LifeAction
 {
     match event {
         Event::Step(p) => lives.next_action(plan, p),
-        Event::Crash(_) => LifeAction::Crash,
+        Event::Crash(p) => LifeAction::Crash {
+            forgets: lives.memory(plan, p),
+        },
     }
 }
 

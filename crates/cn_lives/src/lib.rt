@@ -41,7 +41,7 @@ mod turn;
 pub use course::{LifeCourse, run_life_steps};
 pub use fault::RecordingFault;
 pub use first::first_plan;
-pub use life_action::{LifeAction, LifeRecord};
+pub use life_action::{LifeAction, LifeRecord, Memory};
 pub use lives::Lives;
 pub use local::{Local, Stage};
 pub use plan::RecordingPlan;

@@ -12,6 +12,15 @@ use cn_agree::Action;
 use cn_choice::Team;
 use cn_table::State;
 
+/// What a process remembers.
+#[derive(Clone, Copy, Debug, Drop)]
+pub enum Memory {
+    /// The value with which it is at a node.
+    Value { node: u8, value: u64 },
+    /// The value that it has decided.
+    Decision { value: u64 },
+}
+
 /// What a process does in an event.
 #[derive(Clone, Copy, Debug, Drop)]
 pub enum LifeAction {
@@ -23,8 +32,8 @@ pub enum LifeAction {
     ReadEmpty { node: u8, team: Team },
     /// It has decided before, and does nothing.
     HasDecided,
-    /// It crashes, and begins again with its input.
-    Crash,
+    /// It crashes, forgets this, and begins again with its input.
+    Crash { forgets: Memory },
 }
 
 /// An event of a schedule: the process that it names, and what this process does.
@@ -78,11 +87,13 @@ fn apply(plan: &RecordingPlan, turn: Turn, state: State) -> LifeAction
     ensures table { IsOfTable plan.now.plan.table result }
 {
     let here = turn.here;
-    let (response, _) = plan.plan().act(here.role, state);
+    let (response, after) = plan.plan().act(here.role, state);
     LifeAction::Common(Action::Apply {
         node: here.node,
         operation: plan.plan().operation(here.role),
         response,
+        before: state,
+        after,
     })
 }
 

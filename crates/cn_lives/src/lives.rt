@@ -2,7 +2,7 @@
 ghost use Rattle.std.specs.Prelude.{◌≡◌, ◌<◌, ◌++◌, ◌∷◌, [], List, length, map};
 ghost use Rattle.std.specs.Prelude.{IfNone, IfOk, IfSome, IsSome};
 ghost use Rattle.cn_proto.specs.Plan.{processes_of};
-ghost use Rattle.cn_lives.specs.Courses.{IsOfTable, action_of};
+ghost use Rattle.cn_lives.specs.Courses.{IsOfTable, action_of, memory_of};
 ghost use Rattle.cn_lives.specs.Lives.{world_of};
 ghost use Rattle.cn_lives.specs.Runs.{AreLivesOf, LiveBy, decision_at, first_world};
 ghost use Rattle.cn_lives.specs.Steps.{after_crash, after_step, held_at, local_at};
@@ -14,7 +14,7 @@ ghost use Rattle.cn_lives.specs.declared.schedule.Event.{Event};
 ghost use Rattle.cn_lives.specs.declared.schedule.Event.TheVariants.{Step, Crash};
 
 use crate::laws::recording_plans_are_sound;
-use crate::life_action::{LifeAction, action_at};
+use crate::life_action::{LifeAction, Memory, action_at};
 use crate::local::{Local, Stage};
 use crate::plan::RecordingPlan;
 use crate::turn::{Turn, local_after, register_of, share};
@@ -100,6 +100,23 @@ impl Lives {
         match self.turn(plan, p) {
             Some(turn) => action_at(plan, turn, &self.registers, &self.objects),
             None => LifeAction::HasDecided,
+        }
+    }
+
+    /// What process `p` remembers.
+    pub fn memory(&self, plan: &RecordingPlan, p: u8) -> Memory
+        requires of_plan { LiveBy plan.now (world_of self.now) }
+        requires process { p < processes_of plan.now.plan }
+        // promise: next-action-of-lives (memory_of)
+        ensures { result ≡ memory_of plan.now (world_of self.now) p }
+    {
+        recording_plans_are_sound(plan);
+        match self.locals[usize::from(p)] {
+            Local::Active { place, value, .. } => Memory::Value {
+                node: plan.plan().path(p)[place].node,
+                value,
+            },
+            Local::Decided(value) => Memory::Decision { value },
         }
     }
 

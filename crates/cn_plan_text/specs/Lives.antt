@@ -19,7 +19,7 @@ life_action_text t (ReadStart node state) =
 life_action_text t (ReadEmpty node team) =
     concat (codes "finds nothing in " ∷ team_name team ∷ codes " of node " ∷ decimal node ∷ [])
 life_action_text t HasDecided = step_text t None
-life_action_text t Crash = codes "crashes"
+life_action_text t (Crash forgets) = codes "crashes"
 
 abbrev pub life_step_line : TypeTable → LifeRecord → List ℕ
 life_step_line t r =

@@ -13,7 +13,7 @@ abbrev pub action_text : TypeTable → Action ℕ → List ℕ
 action_text t (Write node team value) =
     concat (codes "writes " ∷ decimal value ∷ codes " to " ∷ team_name team ∷ codes " of node "
     ∷ decimal node ∷ [])
-action_text t (Apply node operation response) =
+action_text t (Apply node operation response before after) =
     concat (codes "applies " ∷ name_at (operation_names t) operation.0 ∷ codes " at node "
     ∷ decimal node ∷ codes ": " ∷ name_at t.responses response.0 ∷ [])
 action_text t (Read node state team) =

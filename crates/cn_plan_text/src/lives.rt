@@ -25,7 +25,7 @@ fn push_life_action(lines: &mut String, table: &Table, action: LifeAction) -> Re
             write!(lines, "finds nothing in {team} of node {node}")
         }
         LifeAction::HasDecided => push_step(lines, table, None),
-        LifeAction::Crash => lines.push_str("crashes"),
+        LifeAction::Crash { .. } => lines.push_str("crashes"),
     }
 }
 

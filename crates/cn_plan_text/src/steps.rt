@@ -22,6 +22,7 @@ fn push_action(lines: &mut String, table: &Table, action: Action<u64>) -> Result
             node,
             operation,
             response,
+            ..
         } => {
             let operation = table.operation_name(operation);
             let response = table.response_name(response);

@@ -41,7 +41,7 @@ impl fmt::Display for ConsensusNumber {
 }
 
 /// The most operations of the stocks that are searched for a table.
-fn most_operations(table: &Table) -> u8
+pub(crate) fn most_operations(table: &Table) -> u8
     ensures range { (3 ≤ result) × (result ≤ MOST_SIZE) }
     ensures all { length table.now.states ≤ result }
 {
@@ -50,7 +50,7 @@ fn most_operations(table: &Table) -> u8
 
 /// The number of a type no two of whose operations last, from the one up to at least as many
 /// processes as it has states.
-fn finite(found: Option<u8>) -> ConsensusNumber
+pub(crate) fn finite(found: Option<u8>) -> ConsensusNumber
     ensures { (t : TypeTable) (most : ℕ) → IsClosed t → NoneLast t → 3 ≤ most
         → length t.states ≤ most → IsNumberUpTo t most found → HasNumber t result }
 {

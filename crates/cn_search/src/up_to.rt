@@ -50,6 +50,25 @@ fn greatest_of(found: Option<u8>, two: bool) -> Option<u8>
     }
 }
 
+/// The greatest n up to the most for which the type is n-discerning, from the greatest number of
+/// operations of which some stock splits.
+pub(crate) fn number_by_split<T: Threads + Sync>(
+    rt: &T,
+    alloc: Global,
+    table: &Table,
+    most: u8,
+    found: Option<u8>,
+    threading: Threading,
+) -> Result<Option<u8>, AllocError>
+    requires some { 3 ≤ most }
+    requires found { IsExactSplit table.now most found }
+    // promise: greatest-discerning (IsNumberUpTo)
+    ensures { IfOk result (IsNumberUpTo table.now most) }
+{
+    let two = decide(rt, alloc, table, LEAST_LIMIT, threading)?;
+    Ok(greatest_of(found, two.is_discerning))
+}
+
 /// The greatest n up to the most for which the type is n-discerning.
 pub(crate) fn number_by_stocks<T: Threads + Sync>(
     rt: &T,
@@ -64,8 +83,7 @@ pub(crate) fn number_by_stocks<T: Threads + Sync>(
     ensures { IfOk result (IsNumberUpTo table.now most) }
 {
     let found = exact_split(rt, alloc, table, most, threading)?;
-    let two = decide(rt, alloc, table, LEAST_LIMIT, threading)?;
-    Ok(greatest_of(found, two.is_discerning))
+    number_by_split(rt, alloc, table, most, found, threading)
 }
 
 /// Two, if the type is 2-discerning.

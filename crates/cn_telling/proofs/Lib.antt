@@ -3,5 +3,6 @@ pub mod CandidateLemmas
 pub mod CellLemmas
 pub mod JoinLemmas
 pub mod LevelLemmas
+pub mod NextLemmas
 pub mod TellLemmas
 pub mod RowLemmas

@@ -1,6 +1,7 @@
 pub mod Telling
 pub mod Settings
 pub mod Levels
+pub mod LastSearches
 pub mod Greatest
 pub mod Cells
 pub mod Asking

@@ -6,6 +6,7 @@ ghost use Rattle.cn_stocks.specs.Greatest.{NoneFrom};
 ghost use Rattle.cn_stocks.specs.Splits.{SomeSplits, StockSplits};
 ghost use Rattle.cn_telling.specs.Candidates.{LacksStart, SplitsFromSome};
 ghost use Rattle.cn_telling.specs.Greatest.{IsExactSplit};
+ghost use Rattle.cn_telling.specs.LastSearches.{IsLastSearch};
 ghost use Rattle.cn_telling.specs.Levels.{IsNext, IsSearch};
 ghost use Rattle.cn_telling.specs.Telling.{SomeTells};
 
@@ -142,6 +143,67 @@ fn last_split(
     Ok(split_up_to(n))
 }
 
+/// A search that has come to where no stock tells. Only next states count in it, and no response: it
+/// serves for every table with the same next states
+/// ([`searches_serve_other_responses`](crate::laws::searches_serve_other_responses)).
+#[derive(Drop)]
+pub struct LastSearch {
+    /// One operation less than the stocks have. It is 2, or some stock of so many operations tells.
+    n: u8,
+    search: Search,
+}
+
+/// The search of a table up to where no stock tells, if that is before the most operations. The
+/// threads share the stocks.
+///
+/// # Errors
+///
+/// Where memory is short.
+pub fn last_search<T: Threads + Sync>(
+    rt: &T,
+    alloc: Global,
+    table: &Table,
+    most: u8,
+    threading: Threading,
+) -> Result<Option<LastSearch>, AllocError>
+    requires some { 3 ≤ most }
+    requires few { most ≤ MOST_SIZE }
+    // promise: exact-split (IsLastSearch)
+    ensures { IfOk result (IsLastSearch table.now most) }
+{
+    let mut search = Search::new(rt, alloc, table, threading)?;
+    for n in 0..most {
+        search = search.next(rt, alloc, table, n, threading)?;
+        if n >= 2 && !search.some_tells() {
+            return Ok(Some(LastSearch { n, search }));
+        }
+    }
+    Ok(None)
+}
+
+/// What [`exact_split`] answers of a table, by a search that serves for it.
+///
+/// # Errors
+///
+/// Where memory is short.
+pub fn exact_split_by(
+    alloc: Global,
+    table: &Table,
+    most: u8,
+    last: &Option<LastSearch>,
+) -> Result<Option<u8>, AllocError>
+    requires some { 3 ≤ most }
+    requires few { most ≤ MOST_SIZE }
+    requires last { IsLastSearch table.now most last.now }
+    // promise: exact-split (IsExactSplit: NoneFrom)
+    ensures { IfOk result (IsExactSplit table.now most) }
+{
+    match last {
+        Some(last) => last_split(alloc, table, &last.search, last.n),
+        None => Ok(Some(most)),
+    }
+}
+
 /// The greatest number of operations, from 3 to the most, of which some stock splits from some
 /// state, if there is one. It is the greatest such n for which the type is n-discerning
 /// ([`cn_stocks::laws::splits_decide`]). The most is from 3 to
@@ -170,12 +232,6 @@ pub fn exact_split<T: Threads + Sync>(
     // promise: exact-split (IsExactSplit: NoneFrom)
     ensures { IfOk result (IsExactSplit table.now most) }
 {
-    let mut search = Search::new(rt, alloc, table, threading)?;
-    for n in 0..most {
-        search = search.next(rt, alloc, table, n, threading)?;
-        if n >= 2 && !search.some_tells() {
-            return last_split(alloc, table, &search, n);
-        }
-    }
-    Ok(Some(most))
+    let last = last_search(rt, alloc, table, most, threading)?;
+    exact_split_by(alloc, table, most, &last)
 }

@@ -1,14 +1,16 @@
 //! The laws of stocks that tell.
 //!
 //! A law is a function that does nothing: its contract is the law.
-ghost use Rattle.std.specs.Prelude.{◌≢◌, ◌≤◌, ◌<◌, ◌+◌, ℕ, List, length};
+ghost use Rattle.std.specs.Prelude.{◌≢◌, ◌≤◌, ◌<◌, ◌+◌, ℕ, List, Option, length};
 ghost use Rattle.cn_table.specs.TypeTable.{IsClosed, TypeTable};
 ghost use Rattle.cn_choice.specs.Discerning.{IsDiscerning};
 ghost use Rattle.cn_stocks.specs.Lasting.{NoneLast};
 ghost use Rattle.cn_stocks.specs.Splits.{SomeSplits, SplitsFrom, StockSplits};
 ghost use Rattle.cn_stocks.specs.Words.{times};
+ghost use Rattle.cn_telling.specs.LastSearches.{HaveSameNexts, IsLastSearch};
 ghost use Rattle.cn_telling.specs.Rows.{HaveOneRow, SplitsByRows, replaced};
 ghost use Rattle.cn_telling.specs.Telling.{SomeTells};
+ghost use Rattle.cn_telling.specs.declared.exact.LastSearch.{LastSearch};
 
 /// The states tell all but one operation. The greatest number of operations of which some stock
 /// splits is the greatest of which some stock tells, or one more:
@@ -63,4 +65,13 @@ pub fn one_operation_of_a_row_is_enough()
     // promise: one-operation-of-a-row (SplitsByRows)
     ensures rows { (t : TypeTable) (n start : ℕ) → 3 ≤ n → SplitsFrom t n start
         → SplitsByRows t n start }
+{}
+
+/// A search for stocks that tell looks at no response. So the search of a table serves for every
+/// table of as many states and operations in which each operation leads from each state to the same
+/// one.
+pub fn searches_serve_other_responses()
+    // promise: exact-split (HaveSameNexts, IsLastSearch)
+    ensures { (t u : TypeTable) (most : ℕ) (last : Option LastSearch) → HaveSameNexts t u
+        → IsLastSearch t most last → IsLastSearch u most last }
 {}

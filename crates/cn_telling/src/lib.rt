@@ -26,6 +26,6 @@ pub mod shown;
 mod stock_splits;
 mod told;
 
-pub use exact::exact_split;
+pub use exact::{LastSearch, exact_split, exact_split_by, last_search};
 pub use stock_splits::splits;
 pub use told::greatest_told;

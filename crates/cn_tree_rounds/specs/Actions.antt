@@ -43,15 +43,17 @@ looking T node p response state =
 
 -- the action of process p at place i of its path with this value, where the object of the node is
 -- in this state and the registers of its teams hold this: it writes its value to the register of
--- its team; it applies its operation, with this response; it looks at the object, and judges by the
--- response and by what it sees which team came first; it takes the value in the register of this
--- team
+-- its team; it applies its operation, with this response and this state after it; it looks at the
+-- object, and judges by the response and by what it sees which team came first; it takes the value
+-- in the register of this team
 abbrev pub action_at : PlanTree → ℕ → ℕ → ℕ → (ℕ → Option ℕ) → ℕ → Stage → Place → Option Action
 action_at T p i state registers x Write here = Some (acts.Write here.node here.team x)
 action_at T p i state registers x Apply here =
     let response = (act T.table (T.meeting here.node) p state).0 in
     Some (acts.Apply here.node (record { 0 = (T.meeting here.node).operation p })
-    (record { 0 = response }) (judged_behind T here.node p response))
+    (record { 0 = response }) (record { 0 = state })
+    (record { 0 = (act T.table (T.meeting here.node) p state).1 })
+    (judged_behind T here.node p response))
 action_at T p i state registers x (Look response) here =
     Some (looking T here.node p response state)
 action_at T p i state registers x (Take response saw) here =
@@ -89,11 +91,12 @@ records_of plan inputs schedule =
 
 -- ---- operations, responses and states
 
--- the operation, the response and the state are of the table
+-- the operation, the response and the states are of the table
 abbrev pub IsOfTable : TypeTable → Action → Type 0
 IsOfTable t (acts.Write node team x) = Unit {0}
-IsOfTable t (acts.Apply node operation response team) =
+IsOfTable t (acts.Apply node operation response before after team) =
     (operation.0 < length t.operations) × (response.0 < length t.responses)
+    × (before.0 < length t.states) × (after.0 < length t.states)
 IsOfTable t (acts.Read node state team) = state.0 < length t.states
 IsOfTable t (acts.Look node operation response team) =
     (operation.0 < length t.operations) × (response.0 < length t.responses)

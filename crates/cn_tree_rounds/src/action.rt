@@ -11,12 +11,15 @@ pub enum Action {
         team: u8,
         value: u64,
     },
-    /// It applies its operation to the object of a node, and gets this response. Where it does not
-    /// look at the object, it judges by the response that this team came first there.
+    /// It applies its operation to the object of a node, and gets this response. The object is in
+    /// these states before the operation and after it. Where the process does not look at the
+    /// object, it judges by the response that this team came first there.
     Apply {
         node: u8,
         operation: Operation,
         response: Response,
+        before: State,
+        after: State,
         team: Option<u8>,
     },
     /// It reads this state of the object of a node, and judges that this team came first there.

@@ -80,11 +80,13 @@ impl Turn {
                 value: self.value,
             }),
             Stage::Apply => {
-                let (response, _) = plan.act(at, self.process, node.state);
+                let (response, after) = plan.act(at, self.process, node.state);
                 Some(Action::Apply {
                     node: at,
                     operation: plan.operation(at, self.process),
                     response,
+                    before: node.state,
+                    after,
                     team: self.judged_behind(plan, response),
                 })
             }

@@ -29,7 +29,7 @@ abbrev pub action_text : TypeTable → Action → List ℕ
 action_text t (Write node team value) =
     concat (codes "writes " ∷ decimal value ∷ codes " to team " ∷ decimal team ∷ codes " of node "
     ∷ decimal node ∷ [])
-action_text t (Apply node operation response team) =
+action_text t (Apply node operation response before after team) =
     apply_text (name_at (operation_names t) operation.0) node (name_at t.responses response.0) team
 action_text t (Read node state team) =
     concat (codes "reads " ∷ name_at t.states state.0 ∷ codes " at node " ∷ decimal node

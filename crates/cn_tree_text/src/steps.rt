@@ -65,6 +65,7 @@ fn push_action(lines: &mut String, table: &Table, action: Action) -> Result<(), 
             operation,
             response,
             team,
+            ..
         } => {
             let operation = table.operation_name(operation);
             push_apply(lines, operation, node, table.response_name(response), team)

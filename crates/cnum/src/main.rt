@@ -19,6 +19,7 @@ mod lazy_file;
 mod lives_run;
 mod pipe_writer;
 mod runs;
+mod search_progress;
 mod shortest_runs;
 mod text_reader;
 
@@ -33,6 +34,7 @@ use faults::{Faults, known_of, known_of_plan, known_of_processes};
 use lives_run::{run_lives, show_recoverable};
 use pipe_writer::{PipeWriter, is_broken_pipe};
 use runs::{classify, run};
+use search_progress::SearchProgress;
 use shortest_runs::{run_shortest, show_shortest};
 use std::alloc::Global;
 use std::io::{ErrorKind, IsTerminal, Read, Write};
@@ -163,7 +165,11 @@ fn do_recoverable_plan<T: Threads + Sync + Disk + Eprint, I: Read + Copy + Drop,
 }
 
 // Does a command, and tells its faults; how the program ends.
-fn do_command<T: Threads + Wait + Sync + Disk + Eprint, I: Read + Copy + Drop, O: Write>(
+fn do_command<
+    T: Threads + Wait + Clock + Sync + Disk + Eprint,
+    I: Read + Copy + Drop,
+    O: Write,
+>(
     rt: &T,
     alloc: Global,
     stdin: I,
@@ -194,7 +200,9 @@ fn do_command<T: Threads + Wait + Sync + Disk + Eprint, I: Read + Copy + Drop, O
         }
         Invocation::OfTable { table, command } => {
             let mut known = known_of(*table, command);
-            let end = run(rt, alloc, stdin, output, *table, command, &mut known);
+            let progress = SearchProgress::new(rt, faults.is_at_terminal);
+            let told = &progress;
+            let end = run(rt, alloc, stdin, output, *table, command, told, &mut known);
             command_exit(faults, end, &known)
         }
         Invocation::Lives { table, words } => {
@@ -238,7 +246,11 @@ fn do_command<T: Threads + Wait + Sync + Disk + Eprint, I: Read + Copy + Drop, O
 
 // Does a command; how the program ends, and the writer as the command left it. It is silent where
 // whoever read its output went away.
-fn obey<T: Threads + Wait + Sync + Disk + Eprint, I: Read + Copy + Drop, O: Write + Drop>(
+fn obey<
+    T: Threads + Wait + Clock + Sync + Disk + Eprint,
+    I: Read + Copy + Drop,
+    O: Write + Drop,
+>(
     rt: &T,
     alloc: Global,
     stdin: I,

@@ -13,7 +13,7 @@ use crate::lazy_file::{LazyFile, file_text};
 use crate::text_reader::TextReader;
 use cn_app::commands::{self, NamedTable, Tell};
 use cn_app::readers::OpeningArguments;
-use cn_app::reports::{AskedChanges, AskedNumbers, AskedRun, NumberKind};
+use cn_app::reports::{AskedChanges, AskedNumbers, AskedRun, NumberKind, Progress};
 use cn_app::{AppFault, Argument, Known, Outcome, Output, Text};
 use cn_form::{AnswerForm, DocumentForm};
 use cn_hall::AlwaysOn;
@@ -269,12 +269,13 @@ fn asked_changes(
 }
 
 // Runs a command of a table alone.
-fn run_on_table<T: Threads + Sync + Disk, S: Read + Copy, O: Write>(
+fn run_on_table<T: Threads + Sync + Disk, S: Read + Copy, O: Write, P: Progress + Sync>(
     rt: &T,
     alloc: Global,
     table: &mut Text<TextReader<'_, S, T>>,
     output: &mut Output<O>,
     command: &Command<'_>,
+    progress: &P,
 ) -> Result<Outcome, AppFault>
     requires command { certificate_of command.now ≡ None }
     requires text { IsUnread table.old }
@@ -311,7 +312,7 @@ fn run_on_table<T: Threads + Sync + Disk, S: Read + Copy, O: Write>(
             form,
         } => {
             let asked = asked_changes(recoverable, without_read, pairs, form);
-            commands::changes(rt, alloc, table, output, asked)
+            commands::changes(rt, alloc, table, output, asked, progress)
         }
         // The command reads no certificate.
         _ => unreachable!(),
@@ -392,14 +393,15 @@ fn run_on_both<T: Threads + Wait + Sync + Disk, S: Read + Copy + Drop, O: Write>
 }
 
 /// Runs a command of one table, which is read from its source. What the texts say of its fault is
-/// noted.
-pub fn run<T: Threads + Wait + Sync + Disk, S: Read + Copy + Drop, O: Write>(
+/// noted, and the progress is told how far a long search has come.
+pub fn run<T: Threads + Wait + Sync + Disk, S: Read + Copy + Drop, O: Write, P: Progress + Sync>(
     rt: &T,
     alloc: Global,
     stdin: S,
     output: &mut Output<O>,
     table: TextSource<'_>,
     command: &Command<'_>,
+    progress: &P,
     known: &mut Known<'_>,
 ) -> Result<Outcome, AppFault>
     requires { IsWritable output.old }
@@ -410,7 +412,7 @@ pub fn run<T: Threads + Wait + Sync + Disk, S: Read + Copy + Drop, O: Write>(
     let mut table = text_of(rt, alloc, stdin, table);
     match certificate_of(command) {
         None => {
-            let end = run_on_table(rt, alloc, &mut table, output, command);
+            let end = run_on_table(rt, alloc, &mut table, output, command, progress);
             noting_table(alloc, known, &table, end)
         }
         Some(source) => run_on_both(rt, alloc, stdin, table, source, output, command, known),

@@ -18,6 +18,7 @@ use crate::reports::{
     find_unread_report, limit_for, lint_report, numbers_report, pairs_report,
     why_recoverable_report, why_report, why_unread_report,
 };
+use cn_changes::Progress;
 use cn_form::{AnswerForm, DocumentForm};
 use cn_io::readers::read_table;
 use cn_io::{AppFault, Outcome, Output, Report, Source, Text};
@@ -181,17 +182,18 @@ pub fn pairs<T: Threads + Sync, R: Read, W: Write>(
 }
 
 /// Reads a type table and writes its numbers with each other entry in it, in a form
-/// ([`changes_report`]).
+/// ([`changes_report`]). The progress is told how far the search has come.
 ///
 /// # Errors
 ///
 /// The first of these: those of [`read_table`]; want of memory; the writer fails.
-pub fn changes<T: Threads + Sync, R: Read, W: Write>(
+pub fn changes<T: Threads + Sync, R: Read, W: Write, P: Progress + Sync>(
     rt: &T,
     alloc: Global,
     table: &mut Text<R>,
     output: &mut Output<W>,
     asked: AskedChanges,
+    progress: &P,
 ) -> Result<Outcome, AppFault>
     requires table { IsUnread table.old }
     requires output { IsWritable output.old }
@@ -202,7 +204,7 @@ pub fn changes<T: Threads + Sync, R: Read, W: Write>(
         output.old output.new result }
 {
     let table = read_table(alloc, table)?;
-    output.report(changes_report(rt, alloc, &table, asked))
+    output.report(changes_report(rt, alloc, &table, asked, progress))
 }
 
 /// Reads a type table. Answers the numbers asked for in their form ([`numbers_report`]).

@@ -4,7 +4,7 @@ ghost use Rattle.cn_json.specs.Changes.{AreKnownPairs, IsKnownNext};
 ghost use Rattle.cn_app.specs.Commands.Changes.{AreChanges, ArePairsFor, IsChangesReport, changes_in};
 
 use cn_changes::laws::told_changes_are_known;
-use cn_changes::{Changes, NumberKind, PairNumbers, changes_of, pair_numbers, raises_of};
+use cn_changes::{Changes, NumberKind, PairNumbers, Progress, changes_of, pair_numbers, raises_of};
 use cn_form::DocumentForm;
 use cn_io::{AppFault, Report, with_line_feed};
 use cn_json::changes_json;
@@ -26,12 +26,13 @@ pub struct AskedChanges {
 }
 
 /// The changes of two entries that raise the number, if they are asked for and no change of one does.
-fn pairs_for<T: Threads + Sync>(
+fn pairs_for<T: Threads + Sync, P: Progress + Sync>(
     rt: &T,
     alloc: Global,
     table: &Table,
     changes: &Changes,
     asked: bool,
+    progress: &P,
 ) -> Result<Option<PairNumbers>, AllocError>
     ensures { IfOk result (ArePairsFor asked table.now changes.now) }
 {
@@ -42,7 +43,7 @@ fn pairs_for<T: Threads + Sync>(
     if !raises.is_empty() {
         return Ok(None);
     }
-    let pairs = pair_numbers(rt, alloc, table, changes.kind, changes.number)?;
+    let pairs = pair_numbers(rt, alloc, table, changes.kind, changes.number, progress)?;
     Ok(Some(pairs))
 }
 
@@ -67,21 +68,22 @@ fn text_of(
 }
 
 /// The numbers of the table with each other entry in it, in a form: that of [`changes_lines`], of
-/// [`changes_json`] or of [`changes_table`].
+/// [`changes_json`] or of [`changes_table`]. The progress is told how far the search has come.
 ///
 /// # Errors
 ///
 /// `OutOfMemory`.
-pub fn changes_report<T: Threads + Sync>(
+pub fn changes_report<T: Threads + Sync, P: Progress + Sync>(
     rt: &T,
     alloc: Global,
     table: &Table,
     asked: AskedChanges,
+    progress: &P,
 ) -> Result<Report, AppFault>
     ensures { IsChangesReport table.now asked result }
 {
     told_changes_are_known();
-    let changes = changes_of(rt, alloc, table, asked.kind)?;
-    let pairs = pairs_for(rt, alloc, table, &changes, asked.pairs)?;
+    let changes = changes_of(rt, alloc, table, asked.kind, progress)?;
+    let pairs = pairs_for(rt, alloc, table, &changes, asked.pairs, progress)?;
     Ok(Report::whole(text_of(alloc, table, &changes, &pairs, asked.form)?))
 }
