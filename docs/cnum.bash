@@ -40,7 +40,7 @@ _cnum() {
         [[ $previous == --as ]] && values='text json markdown'
         ;;
     show)
-        options='--shortest --without-read --processes --as --table -h --help' arguments='CERT FILE'
+        options='--recoverable --shortest --without-read --processes --as --table -h --help' arguments='CERT FILE'
         [[ $previous == --processes ]] && values='2 3 4 5 6 7 8'
         [[ $previous == --as ]] && values='text json dot promela rust c'
         ;;

@@ -105,6 +105,7 @@ complete -c cnum -n '__cnum_is changes' -l pairs -d 'Tries changes of two entrie
 complete -c cnum -n '__cnum_is changes' -l as -x -a 'text json markdown' -d 'The form in which the numbers are written'
 complete -c cnum -n '__cnum_is changes' -s h -l help -d 'Print help'
 complete -c cnum -n '__cnum_at changes 1' -F
+complete -c cnum -n '__cnum_is show' -l recoverable -d 'Writes the plan of processes that come back: CERT is the table'
 complete -c cnum -n '__cnum_is show' -l shortest -d 'Writes the shortest plan, with no certificate: CERT is the table'
 complete -c cnum -n '__cnum_is show' -l without-read -d 'Writes the shortest plan of which no process reads'
 complete -c cnum -n '__cnum_is show' -l processes -x -a '2 3 4 5 6 7 8' -d 'How many processes there are, from 2 to 8, where there is no certificate'

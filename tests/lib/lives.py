@@ -71,6 +71,7 @@ class Lives:
         if start in left[A]:
             a, b, left = b, a, left[::-1]
         self.table, self.start, self.n, self.operations = table, start, len(a) + len(b), a + b
+        self.roles_of_a = len(a)
         self.left_by_a, self.looks = left[A], looks
         self.peeking = {team for team in peeks if len((a, b)[team]) == 1}
         self.paths = [path(len(a), len(b), p) for p in range(self.n)]
@@ -115,6 +116,22 @@ class Lives:
     def left(self, p, local):
         """How many steps process p needs at most from a local state to its decision."""
         return 0 if len(local) == 1 else 6 * (len(self.paths[p]) - local[0]) - min(local[2], 5)
+
+
+def told_plan(lives):
+    """What `show --recoverable` tells of the plan: its lines, and the same as a value."""
+    kind, start, steps = lives.table, lives.table.states[lives.start], [lives.left(p, (0, 0, WRITE)) for p in range(lives.n)]
+    judges = [{"state": name, "team": "AB"[state not in lives.left_by_a]} for state, name in enumerate(kind.states)]
+    roles = [{"operation": kind.operations[it], "team": "AB"[role >= lives.roles_of_a]} for role, it in enumerate(lives.operations)]
+    paths = [[{"node": node, "role": role, "team": "AB"[team]} for node, team, role in places] for places in lives.paths]
+    lines = [f"type {kind.name} processes {lives.n} nodes {lives.n - 1} start {start} steps {max(steps)}"]
+    lines += [f"team {team} first:" + "".join(" " + it["state"] for it in judges if it["team"] == team) for team in "AB"]
+    lines += [f"role {role} {it['team']} {it['operation']}" for role, it in enumerate(roles)]
+    for p, places in enumerate(paths):
+        lines.append(f"process {p} steps {steps[p]}: " + ", ".join(f"node {it['node']} {it['team']} role {it['role']}" for it in places))
+    value = {"judges": judges, "lone": lives.roles_of_a == 1, "nodes": lives.n - 1, "processes": lives.n, "roles": roles, "start": start}
+    value["paths"] = [{"places": places, "process": p, "steps": steps[p]} for p, places in enumerate(paths)]
+    return lines, {**value, "steps": max(steps), "type": kind.name}
 
 
 def told_event(lives, world, p, is_crash):

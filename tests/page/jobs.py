@@ -106,6 +106,8 @@ class Jobs:
             self.run(["why", "--without-read", "--all", "--as", form, "-"], table)
         for n, inputs in (("2", "1,2"), ("3", "1,2,3")):
             self.run(["agree", "--recoverable", "--processes", n, "--steps", "--as", "json", "-", inputs, CRASHES], table)
+            for form in ("text", "json"):
+                self.run(["show", "--recoverable", "--processes", n, "--as", form, "-"], table)
             self.run(["show", "--shortest", "--processes", n], table)
             self.run(["show", "--without-read", "--processes", n], table)
             shortest = self.run(["find", "--shortest", "--processes", n], table)
@@ -155,7 +157,7 @@ class Jobs:
         refused += [["classify", "--without-read", "--limit", "3", "-"], ["why", "--without-read", "--recoverable", "-"], ["find", "--without-read", "--limit", "3"]]
         refused += [["find", "--stocks", "--without-read"], ["find", "--stocks", "--limit", "9"], ["check", "--stocks", "--shortest", "C"]]
         refused += [["explain", "--stocks", "--as", "json", "C"], ["why", "--stocks", "--recoverable", "-"]]
-        refused += [["show"], ["show", "--shortest", "C", "-"], ["agree", "--shortest", "--recoverable", "-", "1,2", "0"], ["agree", "--without-read", "--recoverable", "-", "1,2", "0"]]
+        refused += [["show"], ["show", "--shortest", "C", "-"], ["show", "--recoverable", "--as", "dot", "-"], ["agree", "--shortest", "--recoverable", "-", "1,2", "0"], ["agree", "--without-read", "--recoverable", "-", "1,2", "0"]]
         for words in [*refused, ["--help"], ["-h"], ["--version"], ["help"], *([it, "--help"] for it in COMMANDS)]:
             self.run(words, BIT)
 

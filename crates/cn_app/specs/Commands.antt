@@ -24,6 +24,7 @@ pub mod Serve
 pub mod Shortest
 pub mod ShortestCost
 pub mod Show
+pub mod ShowRecoverable
 pub mod ShowShortest
 pub mod Why
 pub mod WhyRecoverable

@@ -19,7 +19,7 @@ mod of_stocks;
 mod of_tables;
 
 pub use of_certificates::{agree, check, check_unread, explain, show};
-pub use of_lives::agree_recoverably;
+pub use of_lives::{agree_recoverably, show_recoverable};
 pub use of_logs::{replay, serve};
 pub use of_plan_certificates::{check_shortest, find_shortest};
 pub use of_several_tables::{NamedTable, Tell, classify_each};

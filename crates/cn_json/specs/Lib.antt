@@ -15,6 +15,7 @@ pub mod Witness
 pub mod Verdict
 pub mod Lasting
 pub mod Explanation
+pub mod RecordingPlans
 pub mod Recoverable
 pub mod UnreadWitness
 pub mod Unread

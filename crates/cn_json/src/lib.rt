@@ -6,7 +6,8 @@
 //! the steps of processes, [`log_json`] and [`service_json`] what happened in a log,
 //! [`explanation_json`], [`recoverable_explanation_json`] and [`unread_explanation_json`] why a
 //! number is what it is, [`pairs_json`] the numbers of operations and of their pairs, [`changes_json`]
-//! those of a type with other entries, [`plan_json`] a plan, [`tree_plan_json`] a plan tree, and [`tree_course_json`] a run along one.
+//! those of a type with other entries, [`plan_json`] a plan, [`recording_plan_json`] that of a
+//! recording witness, [`tree_plan_json`] a plan tree, and [`tree_course_json`] a run along one.
 //! Each text is that of a JSON value, which is a function of the answer.
 //!
 //! ```text
@@ -29,6 +30,7 @@ mod names;
 mod numbers;
 mod pairs;
 mod plan;
+mod recording_plan;
 mod recoverable;
 mod stock_verdict;
 mod tree_course;
@@ -50,6 +52,7 @@ pub use log::{AnswerOf, log_json, service_json};
 pub use numbers::{Classification, classification_json};
 pub use pairs::pairs_json;
 pub use plan::plan_json;
+pub use recording_plan::recording_plan_json;
 pub use recoverable::recoverable_explanation_json;
 pub use stock_verdict::stock_refusal_json;
 pub use tree_course::tree_course_json;

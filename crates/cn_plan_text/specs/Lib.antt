@@ -5,4 +5,5 @@ pub mod Lives
 pub mod Log
 pub mod Places
 pub mod Promela
+pub mod RecordingPlans
 pub mod Steps

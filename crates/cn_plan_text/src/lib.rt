@@ -2,7 +2,8 @@
 //! of logs and of lives.
 //!
 //! [`plan_dot`] answers a plan as a picture for Graphviz, and [`plan_promela`] as a model for the
-//! model checker SPIN. [`decision_lines`] answers a line for each process of a round, [`step_lines`]
+//! model checker SPIN; [`recording_plan_lines`] tells the plan of a recording witness.
+//! [`decision_lines`] answers a line for each process of a round, [`step_lines`]
 //! one for each step of a schedule, and [`life_step_lines`] one for each step and crash.
 //! [`answer_lines`] answers a line for each call of a log that ended, [`reply_lines`] one for each
 //! reply to a process, [`entry_lines`] one for each entry, and [`events_line`] the events in the form
@@ -22,6 +23,7 @@ mod lives;
 mod log;
 mod places;
 mod promela;
+mod recording_plan;
 mod steps;
 
 pub use decisions::decision_lines;
@@ -30,4 +32,5 @@ pub use events::events_line;
 pub use lives::life_step_lines;
 pub use log::{answer_lines, entry_lines, push_answer_line, reply_lines};
 pub use promela::plan_promela;
+pub use recording_plan::{life_steps, most_life_steps, recording_plan_lines};
 pub use steps::step_lines;

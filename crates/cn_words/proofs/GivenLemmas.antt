@@ -17,7 +17,7 @@ use Rattle.cn_form.specs.declared.answer_form.AnswerForm.TheVariants as answer
 use Rattle.cn_words.specs.declared.commands.Command.{Command}
 use Rattle.cn_words.specs.declared.commands.Command.TheVariants.{Find, FindUnread, FindShortest, FindStocks, Lint, Draw, Check, CheckUnread, CheckShortest, CheckStocks, Explain, ExplainStocks, Why, WhyRecoverable, WhyUnread, WhyStocks, Pairs, Changes, Show, Agree, Replay, Serve}
 use Rattle.cn_words.specs.declared.commands.Invocation.{Invocation}
-use Rattle.cn_words.specs.declared.commands.Invocation.TheVariants.{Classify, Lives, OfTable, ShortestPlan, ShortestRun}
+use Rattle.cn_words.specs.declared.commands.Invocation.TheVariants.{Classify, Lives, OfTable, RecoverablePlan, ShortestPlan, ShortestRun}
 use Rattle.cn_words.specs.declared.commands.OpeningWords.{OpeningWords}
 use Rattle.cn_words.specs.declared.commands.TextSource.{TextSource}
 use Rattle.cn_words.specs.declared.without_certificate.RunWords.{RunWords}
@@ -241,6 +241,7 @@ classify_wants rows (OfTable table command) h = absurd (wants (codes "classify")
 classify_wants rows (Lives table words) h = absurd (subst (λ n. MatchBool (bytes_eq n (codes "classify")) (Unit {0}) ⊥) h.0 tt)
 classify_wants rows (ShortestRun table without_read words) h = absurd (subst (λ n. MatchBool (bytes_eq n (codes "classify")) (Unit {0}) ⊥) h.0 tt)
 classify_wants rows (ShortestPlan table without_read processes form) h = absurd (subst (λ n. MatchBool (bytes_eq n (codes "classify")) (Unit {0}) ⊥) h.0 tt)
+classify_wants rows (RecoverablePlan table processes form) h = absurd (subst (λ n. MatchBool (bytes_eq n (codes "classify")) (Unit {0}) ⊥) h.0 tt)
 
 -- what `agree --recoverable` requires of its words
 pub lives_wants : (rows : List Row) (i : Invocation) → is_flag_set (codes "recoverable") rows ≡ true → IsInvocation (codes "agree") rows i
@@ -255,6 +256,7 @@ lives_wants rows (OfTable table command) flag h =
 lives_wants rows (Lives table words) flag h = (h.2, (table, h.3), (words, h.4))
 lives_wants rows (ShortestRun table without_read words) flag h = let bad : true ≡ false = sym flag ∙ h.2 in cc
 lives_wants rows (ShortestPlan table without_read processes form) flag h = absurd (subst (λ n. MatchBool (bytes_eq n (codes "agree")) (Unit {0}) ⊥) h.0 tt)
+lives_wants rows (RecoverablePlan table processes form) flag h = absurd (subst (λ n. MatchBool (bytes_eq n (codes "agree")) (Unit {0}) ⊥) h.0 tt)
 
 -- a flag that excludes a certificate is not there beside one
 not_beside : (r s p : Bool) → s ≡ true → (r || (s || p)) ≡ false → ⊥
@@ -271,6 +273,7 @@ run_wants rows (OfTable table command) flag h =
 run_wants rows (Lives table words) flag h = let bad : true ≡ false = sym flag ∙ h.2 in cc
 run_wants rows (ShortestRun table without_read words) flag h = ((table, h.4), (words, h.5))
 run_wants rows (ShortestPlan table without_read processes form) flag h = absurd (subst (λ n. MatchBool (bytes_eq n (codes "agree")) (Unit {0}) ⊥) h.0 tt)
+run_wants rows (RecoverablePlan table processes form) flag h = absurd (subst (λ n. MatchBool (bytes_eq n (codes "agree")) (Unit {0}) ⊥) h.0 tt)
 
 -- what `show` requires of the words for a shortest plan
 pub plan_wants : (rows : List Row) (i : Invocation) → asks_for_shortest rows ≡ true → IsInvocation (codes "show") rows i
@@ -280,4 +283,21 @@ plan_wants rows (OfTable table command) flag h =
     absurd (not_beside _ (asks_for_shortest rows) _ flag (wants (codes "show") rows command h.arguments).2)
 plan_wants rows (Lives table words) flag h = absurd (subst (λ n. MatchBool (bytes_eq n (codes "show")) (Unit {0}) ⊥) h.0 tt)
 plan_wants rows (ShortestRun table without_read words) flag h = absurd (subst (λ n. MatchBool (bytes_eq n (codes "show")) (Unit {0}) ⊥) h.0 tt)
-plan_wants rows (ShortestPlan table without_read processes form) flag h = ((table, h.3), (processes, h.4), (form, h.5))
+plan_wants rows (ShortestPlan table without_read processes form) flag h = ((table, h.4), (processes, h.5), (form, h.6))
+plan_wants rows (RecoverablePlan table processes form) flag h = let bad : true ≡ false = sym flag ∙ h.2 in cc
+
+-- what `show --recoverable` requires of its words
+pub recoverable_wants : (rows : List Row) (i : Invocation) → is_flag_set (codes "recoverable") rows ≡ true → IsInvocation (codes "show") rows i
+    → (asks_for_shortest rows ≡ false) × ((t : TextSource) × HasPlanTable rows t) × ((n : Option ℕ) × HasOptionalNumber (codes "processes") rows n)
+    × ((form : AnswerForm) × HasAnswerForm rows form)
+recoverable_wants rows (Classify limit recoverable without_read form tables) flag h = absurd (subst (λ n. MatchBool (bytes_eq n (codes "show")) (Unit {0}) ⊥) h.0 tt)
+recoverable_wants rows (OfTable table command) flag h =
+    absurd (go (is_flag_set (codes "recoverable") rows) _ flag (wants (codes "show") rows command h.arguments).2)
+  where
+    go : (b d : Bool) → b ≡ true → (b || d) ≡ false → ⊥
+    go true d e h = cc
+    go false d e h = cc
+recoverable_wants rows (Lives table words) flag h = absurd (subst (λ n. MatchBool (bytes_eq n (codes "show")) (Unit {0}) ⊥) h.0 tt)
+recoverable_wants rows (ShortestRun table without_read words) flag h = absurd (subst (λ n. MatchBool (bytes_eq n (codes "show")) (Unit {0}) ⊥) h.0 tt)
+recoverable_wants rows (ShortestPlan table without_read processes form) flag h = let bad : true ≡ false = sym flag ∙ h.2 in cc
+recoverable_wants rows (RecoverablePlan table processes form) flag h = (h.2, (table, h.3), (processes, h.4), (form, h.5))

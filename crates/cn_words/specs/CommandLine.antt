@@ -159,8 +159,9 @@ changes_words forms = command_with (codes "changes")
 
 abbrev pub show_words : ValueParser → Shape
 show_words forms = command_with (codes "show")
-    (optional_certificate_word ∷ flag (codes "shortest") ∷ flag (codes "without-read")
-    ∷ processes_option ∷ form_option forms ∷ table_option ∷ file_word ∷ [])
+    (optional_certificate_word ∷ flag (codes "recoverable") ∷ flag (codes "shortest")
+    ∷ flag (codes "without-read") ∷ processes_option ∷ form_option forms ∷ table_option
+    ∷ file_word ∷ [])
 
 abbrev pub draw_words : Shape
 draw_words = command_with (codes "draw") (table_option ∷ file_word ∷ [])

@@ -29,7 +29,8 @@ use Rattle.cn_words.specs.declared.commands.CommandFault.{CommandFault}
 use Rattle.cn_words.specs.declared.commands.CommandFault.TheVariants as fault
 use Rattle.cn_words.specs.declared.commands.Invocation.{Invocation}
 use Rattle.cn_words.specs.declared.commands.Invocation.TheVariants.{Classify, Lives, OfTable}
-use Rattle.cn_words.specs.declared.commands.Invocation.TheVariants.{ShortestPlan, ShortestRun}
+use Rattle.cn_words.specs.declared.commands.Invocation.TheVariants.{RecoverablePlan, ShortestPlan}
+use Rattle.cn_words.specs.declared.commands.Invocation.TheVariants.{ShortestRun}
 use Rattle.cn_words.specs.declared.commands.OpeningWords.{OpeningWords}
 use Rattle.cn_words.specs.declared.commands.TextSource.{TextSource}
 use Rattle.cn_words.specs.declared.without_certificate.RunWords.{RunWords}
@@ -160,8 +161,7 @@ HasRun rows words = HasWord (codes "INPUTS") rows words.inputs.now
 abbrev pub HasRunTable : List Row → TextSource → Type 0
 HasRunTable rows table = HasCertificate rows table × (table_in rows ≡ None)
 
--- the word that says where the table of the shortest plan is: the value of the option, or else the
--- first word
+-- the word that says where the table of a plan is: the value of the option, or else the first word
 abbrev pub plan_table_in : List Row → Option Text
 plan_table_in rows = option_or (first_of (codes "table") rows) (first_of (codes "CERT") rows)
 
@@ -335,9 +335,13 @@ IsInvocation name rows (ShortestRun table without_read words) = (name ≡ codes 
     × (without_read ≡ is_flag_set (codes "without-read") rows) × HasRunTable rows table
     × HasRun rows words
 IsInvocation name rows (ShortestPlan table without_read processes form) = (name ≡ codes "show")
-    × (asks_for_shortest rows ≡ true) × (without_read ≡ is_flag_set (codes "without-read") rows)
-    × HasPlanTable rows table × HasOptionalNumber (codes "processes") rows processes
-    × HasForm rows form
+    × (asks_for_shortest rows ≡ true) × (is_flag_set (codes "recoverable") rows ≡ false)
+    × (without_read ≡ is_flag_set (codes "without-read") rows) × HasPlanTable rows table
+    × HasOptionalNumber (codes "processes") rows processes × HasForm rows form
+IsInvocation name rows (RecoverablePlan table processes form) = (name ≡ codes "show")
+    × (is_flag_set (codes "recoverable") rows ≡ true)
+    × (asks_for_shortest rows ≡ false) × HasPlanTable rows table
+    × HasOptionalNumber (codes "processes") rows processes × HasAnswerForm rows form
 
 -- the invocation of the parsed command, by the words behind its name
 abbrev pub IsInvocationOf : ArgMatches → Invocation → Type 0

@@ -9,7 +9,7 @@ use crate::plan_certificates::{check_shortest, find_shortest};
 use crate::stock_certificates::{check_stocks, explain_stocks, find_stocks, why_stocks};
 use crate::without_certificate::{
     RunWords, asks_for_shortest, excludes_certificate, is_flag_set, is_of_plan, plan_table,
-    run_table, run_words,
+    recoverable_plan, run_table, run_words,
 };
 use clap::ArgMatches;
 use cn_form::{AnswerForm, DocumentForm, PlanForm};
@@ -245,6 +245,15 @@ pub enum Invocation<'a> {
         processes: Option<u8>,
         /// The form of the plan.
         form: PlanForm,
+    },
+    /// Writes the plan of the first recording witness.
+    RecoverablePlan {
+        /// Where the table is read from.
+        table: TextSource<'a>,
+        /// How many processes there are, if a number was given.
+        processes: Option<u8>,
+        /// The form of the plan.
+        form: AnswerForm,
     },
 }
 
@@ -732,7 +741,8 @@ fn shortest_run<'a>(words: &ArgMatches<'a>) -> Option<Invocation<'a>>
 
 // What `show` asks for by a shortest plan.
 fn shortest_plan<'a>(words: &ArgMatches<'a>) -> Option<Invocation<'a>>
-    requires { asks_for_shortest (rows_in words.now) ≡ true }
+    requires shortest { asks_for_shortest (rows_in words.now) ≡ true }
+    requires lasting { is_flag_set (codes "recoverable") (rows_in words.now) ≡ false }
     ensures { Finds (IsInvocation (codes "show") (rows_in words.now)) result }
 {
     Some(Invocation::ShortestPlan {
@@ -759,6 +769,9 @@ fn invocation_named<'a>(
     }
     if name == "agree" && asks_for_shortest(words) {
         return Ok(shortest_run(words));
+    }
+    if name == "show" && is_flag_set(words, "recoverable") {
+        return Ok(recoverable_plan(words));
     }
     if name == "show" && asks_for_shortest(words) {
         return Ok(shortest_plan(words));

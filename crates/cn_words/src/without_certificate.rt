@@ -1,10 +1,12 @@
-//! The words of plans without a certificate: `agree --recoverable`, and of `agree` and `show`
-//! `--shortest` and `--without-read`.
-ghost use Rattle.std.specs.Prelude.{◌≡◌};
-ghost use Rattle.cn_words.specs.GivenCommands.{Finds, HasPlanTable, HasRun, HasRunTable};
+//! The words of plans without a certificate: of `agree` and `show` `--recoverable`, `--shortest` and
+//! `--without-read`.
+ghost use Rattle.std.specs.Prelude.{◌≡◌, codes, true};
+ghost use Rattle.cn_words.specs.GivenCommands.{Finds, HasPlanTable, HasRun, HasRunTable, IsInvocation};
 ghost use Rattle.cn_words.specs.GivenCommands.{asks_for_shortest, excludes_certificate, is_flag_set, is_of_plan, rows_in};
 
-use crate::commands::{TextSource, answer_form, list, optional_number, table_word, word};
+use crate::commands::{
+    Invocation, TextSource, answer_form, list, optional_number, table_word, word,
+};
 use clap::ArgMatches;
 use cn_form::AnswerForm;
 
@@ -80,7 +82,7 @@ pub(crate) fn run_table<'a>(words: &ArgMatches<'a>) -> Option<TextSource<'a>>
     Some(TextSource::of(word(words, "CERT")?))
 }
 
-// Where the table of the shortest plan is read from: the option or the first word, which is the
+// Where the table of such a plan is read from: the option or the first word, which is the
 // certificate of other plans, but not both. Without a word for it, that is standard input.
 pub(crate) fn plan_table<'a>(words: &ArgMatches<'a>) -> Option<TextSource<'a>>
     ensures { Finds (HasPlanTable (rows_in words.now)) result }
@@ -93,4 +95,22 @@ pub(crate) fn plan_table<'a>(words: &ArgMatches<'a>) -> Option<TextSource<'a>>
         (Some(file), None) | (None, Some(file)) => Some(TextSource::of(file)),
         (None, None) => Some(TextSource::StandardInput),
     }
+}
+
+// What `show --recoverable` asks for.
+pub(crate) fn recoverable_plan<'a>(words: &ArgMatches<'a>) -> Option<Invocation<'a>>
+    requires { is_flag_set (codes "recoverable") (rows_in words.now) ≡ true }
+    ensures { Finds (IsInvocation (codes "show") (rows_in words.now)) result }
+{
+    if asks_for_shortest(words) {
+        return None;
+    }
+    let table = plan_table(words)?;
+    let processes = optional_number(words, "processes")?;
+    let form = answer_form(words)?;
+    Some(Invocation::RecoverablePlan {
+        table,
+        processes,
+        form,
+    })
 }

@@ -330,6 +330,14 @@ which changes no state, and judges by both responses. Without --processes N is a
 allow, up to 8. Where there is none, a protocol of another kind may do without reads: classify
 --without-read tells for how many processes.
 
+With --recoverable writes the plan for processes that crash and come back, which agree --recoverable
+runs: show --recoverable FILE. The type is in FILE, or on standard input or behind --table, and there
+is no certificate. The plan is that of the first recording witness for N processes, or without
+--processes N for as many as the recoverable number up to 8. Writes a line on the type; for each team
+a line with the states by which a process judges that it came first; for each role a line with its
+team and its operation; and for each process a line with its places, and with the own steps within
+which it decides if it does not crash. There are two forms, text and json.
+
 ",
     "  cnum show types/test_and_set_at_3.json < types/test_and_set.toml
 writes five lines, the last of which is process 1: node 0 B role 1."
@@ -713,11 +721,13 @@ fn changes<'a>(alloc: Global) -> Result<Command<'a>, AllocError>
 fn show<'a>(alloc: Global) -> Result<Command<'a>, AllocError>
     ensures { IfOk result (IsCommandFor plan_forms show_words) }
 {
+    let recoverable = "Writes the plan of processes that come back: CERT is the table";
     let shortest = "Writes the shortest plan, with no certificate: CERT is the table";
     let without_read = "Writes the shortest plan of which no process reads";
     let help = "The form in which the plan is written";
     let command = bare_command(alloc, "show", SHOW_ABOUT, SHOW_AFTER);
     let command = with_argument(Ok(command), optional_certificate(alloc));
+    let command = with_argument(command, flag(alloc, "recoverable", recoverable));
     let command = with_argument(command, flag(alloc, "shortest", shortest));
     let command = with_argument(command, flag(alloc, "without-read", without_read));
     let command = with_argument(command, processes(alloc));

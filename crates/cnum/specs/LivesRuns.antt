@@ -1,9 +1,11 @@
--- What a run of processes that crash and come back reads and writes, by the words for it.
+-- What the commands of processes that crash and come back read and write, by the words for them.
 use Rattle.std.specs.Prelude.{◌≡◌, ◌⊎◌, ℕ, List, Option, Result}
+use Rattle.cn_form.specs.declared.answer_form.AnswerForm.{AnswerForm}
 use Rattle.cn_words.specs.declared.commands.TextSource.{TextSource}
 use Rattle.cn_words.specs.declared.without_certificate.RunWords.{RunWords}
 use Rattle.cn_io.specs.Arguments.Lives.{SpellLifeLists}
 use Rattle.cn_app.specs.Commands.Lives.{HasLivesReport}
+use Rattle.cn_app.specs.Commands.ShowRecoverable.{HasShowRecoverableReport}
 use Rattle.cn_io.specs.Streams.Reading.{HasRead}
 use Rattle.cn_io.specs.Streams.Writing.{Reports}
 use Rattle.cn_io.specs.declared.arguments.list_text.ListText.{ListText}
@@ -32,6 +34,16 @@ asked_by words = record {
 module _ {S D F W : Type 0} (remaining : S → Option (List ℕ)) (left : LazyFile D F
     → Option (List ℕ)) (contents : W → Option (List ℕ))
     (files : List ℕ → Option (List ℕ)) where
+  -- the table of this source was read, of which nothing was read before, and the report on its plan
+  -- for these processes was written
+  pub record ShowsRecoverable (stdin : S) (source : TextSource) (processes : Option ℕ)
+      (form : AnswerForm) (u v : Output W) (r : Result Outcome AppFault) : Type 0 where
+    pub table : Text (TextReader S D F)
+    pub after : Text (TextReader S D F)
+    pub text : IsTextFrom left files stdin source table
+    pub read : HasRead Table (left_of remaining left) table after
+    pub reported : Reports contents (HasShowRecoverableReport after processes form) u v r
+
   -- the table of this source was read, of which nothing was read before, unless the lists have a
   -- fault, and the report on it was written
   pub record RunsPlan (stdin : S) (source : TextSource) (inputs schedule : ListText)

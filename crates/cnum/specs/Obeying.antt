@@ -3,9 +3,11 @@ use Rattle.std.specs.Prelude.{◌≡◌, ℕ, Bool, List, Option, Result}
 use Rattle.cn_words.specs.declared.commands.Command.{Command}
 use Rattle.cn_words.specs.declared.commands.Invocation.{Invocation}
 use Rattle.cn_words.specs.declared.commands.Invocation.TheVariants.{Classify, Lives, OfTable}
-use Rattle.cn_words.specs.declared.commands.Invocation.TheVariants.{ShortestPlan, ShortestRun}
+use Rattle.cn_words.specs.declared.commands.Invocation.TheVariants.{RecoverablePlan, ShortestPlan}
+use Rattle.cn_words.specs.declared.commands.Invocation.TheVariants.{ShortestRun}
 use Rattle.cn_words.specs.declared.commands.TextSource.{TextSource}
 use Rattle.cn_words.specs.declared.without_certificate.RunWords.{RunWords}
+use Rattle.cn_form.specs.declared.answer_form.AnswerForm.{AnswerForm}
 use Rattle.cn_form.specs.declared.plan_form.PlanForm.{PlanForm}
 use Rattle.cn_io.specs.Streams.Writing.{IsUnwritten}
 use Rattle.cn_io.specs.declared.fault.AppFault.{AppFault}
@@ -14,7 +16,7 @@ use Rattle.cn_app.specs.declared.reports.classify.AskedNumbers.{AskedNumbers}
 use Rattle.cn_app.specs.declared.reports.shortest.AskedPlan.{AskedPlan}
 use Rattle.cn_io.specs.declared.streams.output.Output.{Output}
 use Rattle.cnum.specs.Exits.{classify_status, command_status}
-use Rattle.cnum.specs.LivesRuns.{RunsLives}
+use Rattle.cnum.specs.LivesRuns.{RunsLives, ShowsRecoverable}
 use Rattle.cnum.specs.NamedTables.{ClassifiesSources, bytes_of}
 use Rattle.cnum.specs.Runs.{Runs}
 use Rattle.cnum.specs.ShortestRuns.{RunsShortest, ShowsShortest}
@@ -55,6 +57,13 @@ module _ {S F D W : Type 0} (remaining : S → Option (List ℕ)) (left : LazyFi
       × ShowsShortest remaining left contents files stdin table asked form u v end
       × (status ≡ command_status end)
 
+  -- the plan of the first recording witness was written, with the status of the result
+  abbrev pub ShowsRecoverablePlans : S → TextSource → Option ℕ → AnswerForm → Output W → Output W
+      → ℕ → Type 0
+  ShowsRecoverablePlans stdin table processes form u v status = (end : Result Outcome AppFault)
+      × ShowsRecoverable remaining left contents files stdin table processes form u v end
+      × (status ≡ command_status end)
+
   -- the tables of these sources were classified for the numbers asked for, and the exit status is
   -- that of the first fault
   abbrev pub ClassifiesAll : S → AskedNumbers → List TextSource → Output W → Output W → ℕ → Type 0
@@ -65,8 +74,8 @@ module _ {S F D W : Type 0} (remaining : S → Option (List ℕ)) (left : LazyFi
       sources asked u before v after first × (status ≡ classify_status first)
 
   -- what the words ask for is done: the tables that `classify` names are classified, a command of one
-  -- table is run, a plan is run by a schedule of steps and crashes, or the shortest plan is run or
-  -- written
+  -- table is run, a plan is run by a schedule of steps and crashes or written, or the shortest plan is
+  -- run or written
   abbrev pub Does : S → Invocation → Output W → Output W → ℕ → Type 0
   Does stdin (Classify limit recoverable without_read form tables) u v status = ClassifiesAll stdin
       (record {
@@ -82,6 +91,8 @@ module _ {S F D W : Type 0} (remaining : S → Option (List ℕ)) (left : LazyFi
   Does stdin (ShortestPlan table without_read processes form) u v status =
       ShowsShortestPlans stdin table
       (record { processes = processes; without_read = without_read }) form u v status
+  Does stdin (RecoverablePlan table processes form) u v status =
+      ShowsRecoverablePlans stdin table processes form u v status
 
 -- in the same terms: the command was done with these streams, of which nothing was used before, and
 -- the writer is handed back as the command left it; a reader over standard input read the command's

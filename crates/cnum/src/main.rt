@@ -8,7 +8,7 @@ ghost use Rattle.std.specs.Thread.{IsSync};
 ghost use Rattle.cn_io.specs.FaultText.{status_of};
 ghost use Rattle.cnum.specs.Exits.{classify_status, command_status};
 ghost use Rattle.cn_io.specs.Streams.Writing.{IsWritable};
-ghost use Rattle.cnum.specs.Obeying.{Does, Obeys, RunsShortestPlans, ShowsShortestPlans};
+ghost use Rattle.cnum.specs.Obeying.{Does, Obeys, RunsShortestPlans, ShowsRecoverablePlans, ShowsShortestPlans};
 ghost use Rattle.cnum.specs.Texts.{left_in};
 
 mod awaited_input;
@@ -27,11 +27,11 @@ use awaited_input::{AwaitedInput, FirstRead};
 use cn_app::commands::Tell;
 use cn_app::reports::{AskedNumbers, AskedPlan};
 use cn_app::{AppFault, Known, Outcome, Output};
-use cn_form::PlanForm;
+use cn_form::{AnswerForm, PlanForm};
 use cn_words::{CommandFault, Invocation, Reply, RunWords, TextSource};
 use disk::Disk;
 use faults::{Faults, known_of, known_of_plan, known_of_processes};
-use lives_run::run_lives;
+use lives_run::{run_lives, show_recoverable};
 use pipe_writer::{PipeWriter, is_broken_pipe};
 use runs::{classify, run};
 use search_progress::SearchProgress;
@@ -143,6 +143,27 @@ fn do_shortest_plan<T: Disk + Eprint, I: Read + Copy + Drop, O: Write>(
     command_exit(faults, end, &known)
 }
 
+// Writes the plan of the first recording witness, and tells its faults; how the program ends.
+fn do_recoverable_plan<T: Threads + Sync + Disk + Eprint, I: Read + Copy + Drop, O: Write>(
+    rt: &T,
+    alloc: Global,
+    stdin: I,
+    output: &mut Output<O>,
+    faults: &mut Faults<'_, T>,
+    table: TextSource<'_>,
+    processes: Option<u8>,
+    form: AnswerForm,
+) -> ExitCode
+    requires { IsWritable output.old }
+    ensures { ShowsRecoverablePlans I.remaining (left_in T.contents T.Reader.remaining) O.contents
+        (T.contents rt.now) stdin table.entry processes form output.old output.new
+        (exit_status result) }
+{
+    let mut known = known_of_processes(table, processes);
+    let end = show_recoverable(rt, alloc, stdin, output, table, processes, form, &mut known);
+    command_exit(faults, end, &known)
+}
+
 // Does a command, and tells its faults; how the program ends.
 fn do_command<
     T: Threads + Wait + Clock + Sync + Disk + Eprint,
@@ -215,6 +236,11 @@ fn do_command<
             };
             do_shortest_plan(rt, alloc, stdin, output, faults, *table, asked, *form)
         }
+        Invocation::RecoverablePlan {
+            table,
+            processes,
+            form,
+        } => do_recoverable_plan(rt, alloc, stdin, output, faults, *table, *processes, *form),
     }
 }
 

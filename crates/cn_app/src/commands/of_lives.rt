@@ -1,11 +1,13 @@
-//! The command that runs processes which crash and come back.
+//! The commands of processes that crash and come back.
 ghost use Rattle.std.specs.Prelude.{◌≡◌, ◌⊎◌};
 ghost use Rattle.cn_io.specs.Arguments.Lives.{SpellLifeLists};
 ghost use Rattle.cn_app.specs.Commands.Lives.{HasLivesReport};
+ghost use Rattle.cn_app.specs.Commands.ShowRecoverable.{HasShowRecoverableReport};
 ghost use Rattle.cn_io.specs.Streams.Reading.{HasRead, IsUnread};
 ghost use Rattle.cn_io.specs.Streams.Writing.{IsWritable, Reports};
 
-use crate::reports::{AskedLives, lives_report};
+use crate::reports::{AskedLives, lives_report, show_recoverable_report};
+use cn_form::AnswerForm;
 use cn_io::readers::read_table;
 use cn_io::{AppFault, ListText, Outcome, Output, Source, Text, read_life_lists};
 use std::alloc::Global;
@@ -49,4 +51,31 @@ pub fn agree_recoverably<T: Threads + Sync, R: Read, W: Write>(
     let lists = read_life_lists(alloc, inputs, schedule)?;
     let table = read_table(alloc, table)?;
     output.report(lives_report(rt, alloc, &table, &lists.inputs, &lists.schedule, asked))
+}
+
+/// Reads a type table, and writes the plan of its first recording witness in a form
+/// ([`show_recoverable_report`]).
+///
+/// # Errors
+///
+/// The first of these: those of [`read_table`]; those of [`show_recoverable_report`]; the writer
+/// fails.
+pub fn show_recoverable<T: Threads + Sync, R: Read, W: Write>(
+    rt: &T,
+    alloc: Global,
+    table: &mut Text<R>,
+    output: &mut Output<W>,
+    processes: Option<u8>,
+    form: AnswerForm,
+) -> Result<Outcome, AppFault>
+    requires table { IsUnread table.old }
+    requires output { IsWritable output.old }
+
+    ensures read { HasRead Source.Table R.remaining table.old table.new }
+    // promise: recording-plan-by-show (HasShowRecoverableReport: GivesLivesPlan, recording_text)
+    ensures shown { Reports W.contents
+        (HasShowRecoverableReport table.new processes form) output.old output.new result }
+{
+    let table = read_table(alloc, table)?;
+    output.report(show_recoverable_report(rt, alloc, &table, processes, form))
 }

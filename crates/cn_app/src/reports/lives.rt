@@ -54,7 +54,7 @@ fn process_count<T: Threads + Sync>(
 }
 
 /// The plan of the first recording witness for so many processes.
-fn lives_plan<T: Threads + Sync>(
+pub(crate) fn lives_plan<T: Threads + Sync>(
     rt: &T,
     alloc: Global,
     table: &Table,

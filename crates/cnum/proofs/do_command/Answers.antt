@@ -24,3 +24,7 @@ returns-in-ShortestRun g c =
 pub returns-in-ShortestPlan : goal.returns-in-ShortestPlan
 returns-in-ShortestPlan g c =
     rw c.in-ShortestPlan.is c.do_shortest_plan.ensures
+
+pub returns-in-RecoverablePlan : goal.returns-in-RecoverablePlan
+returns-in-RecoverablePlan g c =
+    rw c.in-RecoverablePlan.is c.do_recoverable_plan.ensures

@@ -1,0 +1,9 @@
+use Rattle.std.proofs.Common.{◌≡◌, ◌++◌, map}
+use Rattle.std.specs.List.{range_with_len}
+use Rattle.cn_json.specs.RecordingPlans.{life_path_data}
+use Rattle.cn_json.specs.Tokens.{each_value}
+use Rattle.cn_json.proofs.recording_plan.write_each_path.Given as goal
+
+-- the values so far
+abbrev pub invariant-loop-process : goal.invariant-loop-process
+invariant-loop-process l = l.out ≡ l.initial.out ++ each_value (map (life_path_data l.plan) (range_with_len 0 l.process))
