@@ -71,7 +71,6 @@ var Cnum = globalThis.Cnum || {};
                 agree: words => this.choice.agree(this.quick, words),
                 tryOut: words => this.choice.agree(this.adversary, words),
                 breakOff: () => this.adversary.breakOff(),
-                next: () => Cnum.run.movesOf(this.table),
                 picture: plan => Cnum.pictureOf(this.graph, plan),
                 mainPicture: () => this.mainPicture(),
                 changed: () => this.address.keepSoon(),
@@ -328,9 +327,10 @@ var Cnum = globalThis.Cnum || {};
             const lint = await this.ask(this.quick, ['lint', '--as', 'json']);
             if (!lint) return;
             const isTable = lint.status === 0;
-            this.editor.show(lint.stdout ? JSON.parse(lint.stdout).flaws : []);
+            const told = lint.stdout ? JSON.parse(lint.stdout) : { flaws: [] };
+            this.editor.show(told.flaws);
             at('fault').textContent = isTable ? '' : Cnum.inWords(lint);
-            at('notes').replaceChildren(...(isTable ? Cnum.notesOf(this.table) : []).map(it => element('li', {}, it)));
+            at('notes').replaceChildren(...(isTable ? Cnum.notesOf(this.table, told) : []).map(it => element('li', {}, it)));
             this.forget(isTable ? '' : say('no_number'));
             this.comparison.show(isTable ? this.table : '');
             if (isTable && this.screens.view === 'pairs') this.comparison.pair();

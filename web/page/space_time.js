@@ -32,9 +32,7 @@ var Cnum = globalThis.Cnum || {};
     };
 
     // What a process forgets: its decision, or else its place.
-    function forgottenText({ decision }) {
-        return decision === Cnum.run.UNDECIDED ? say('st_forgets_place') : say('st_forgets', { value: decision });
-    }
+    const forgottenText = ({ decision }) => (decision === undefined ? say('st_forgets_place') : say('st_forgets', { value: decision }));
 
     // What a step did, as one short text.
     Cnum.shortText = event => TEXTS[event.kind](event)[0];
