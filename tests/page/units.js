@@ -181,6 +181,18 @@ describe('a plan tree', () => {
         steps: [6, 6, 3],
     };
 
+    it('of a certificate has the steps of a run of each process alone', () => {
+        const role = team => ({ judges: [], operation: `put${team}`, team: 'AB'[team] });
+        const at = (node, team) => ({ node, role: team, team: 'AB'[team] });
+        const told = { nodes: 2, paths: [[at(0, 0)], [at(1, 0), at(0, 1)], [at(1, 1), at(0, 1)]], processes: 3, roles: [role(0), role(1)], start: 'unset', type: 'sticky_bit' };
+        const steps = [4, 8, 8].flatMap((count, process) => [...Array(count).fill({ action: 'write', process }), { action: 'none', process }]);
+        const plan = Cnum.plans.ofCertificate(told, { steps });
+        assert.deepEqual([plan.steps, plan.most, plan.reads, plan.comeBack], [[4, 8, 8], 8, true, false]);
+        assert.deepEqual(plan.nodes, Array(2).fill({ start: 'unset', teams: ['A', 'B'], roles: [a, b] }));
+        const schedule = Cnum.plans.oneByOne(8).split(',');
+        assert.deepEqual([schedule.length, schedule[0], schedule[64]], [512, '0', '1']);
+    });
+
     it('leaves the witness of the certificate in the picture of the states', () => {
         const { text } = Cnum.examples.flatMap(group => group.types).find(it => it.path === 'types/sticky_bit');
         assert.deepEqual(Cnum.plans.ofWitness([0, [0], [1, 1]], text), { start: 'unset', roles: [a, b, b] });
@@ -638,6 +650,47 @@ describe('the run that fails', () => {
         const { runs, doubting } = Cnum.failingRuns(OWN);
         assert.deepEqual(runs[0].events.map(wordOf).slice(3), ['0 applies', '1 applies', '0 doubts one']);
         assert.deepEqual(runs.map(it => Cnum.failingEnd(it, doubting, '20').wrong), ['first', null]);
+    });
+
+    // A queue of one item that nobody reads, as `why --without-read --all` tells of it.
+    const move = (process, operation, response, state) => ({ operation, process, response, state });
+    const enqueued = ['a', 'a', 'a'].map((item, place) => ({ operation: `enq_${item}`, team: 'ABB'[place] }));
+    const ALIKE = { a_first: [move(0, 'enq_a', 'ok', 'qa')], b_first: [move(1, 'enq_a', 'ok', 'qa')], process: 2, processes: enqueued, start: 'q' };
+    const OTHERS = {
+        a_first: [move(0, 'enq_a', 'ok', 'qa'), move(2, 'enq_b', 'full', 'qa'), move(2, 'deq', 'a', 'q'), move(1, 'enq_b', 'ok', 'qb')],
+        b_first: [move(1, 'enq_b', 'ok', 'qb'), move(2, 'enq_b', 'full', 'qb')],
+        process: 1,
+        processes: ['a', 'b', 'b'].map((item, place) => ({ operation: `enq_${item}`, team: 'ABB'[place] })),
+        start: 'q',
+    };
+    const ENDLESS = { ...ALIKE, a_first: [], b_first: [], process: null };
+    const unread = (choices, more) => ({ merged: [], refuted: { choices, count: 8 }, with_reads: false, ...more });
+    const told = { collisions: [CHOICE], more: 4 };
+
+    it('without reads is one that different operations begin, if there is one with an end', () => {
+        assert.equal(Cnum.wayToShow({ choices: [ENDLESS, ALIKE, OTHERS] }), OTHERS);
+        assert.equal(Cnum.wayToShow({ choices: [ENDLESS, ALIKE] }), ALIKE);
+        assert.equal(Cnum.wayToShow({ choices: [ENDLESS] }), null);
+    });
+
+    it('without reads lets nobody decide before the end', () => {
+        const { runs, inputs, doubting, ways, state, got, reads } = Cnum.failingUnread(told, unread([OTHERS]));
+        const writes = ['0 writes 10', '1 writes 20', '2 writes 20'];
+        const wanted = [[0, 2, 2, 1], [1, 2]].map(its => [...writes, ...its.map(it => `${it} applies`), '1 wavers']);
+        assert.deepEqual(runs.map(it => it.events.map(wordOf)), wanted);
+        assert.deepEqual(runs[0].events.slice(3, 7).map(it => [it.before, it.after]), [['q', 'qa'], ['qa', 'qa'], ['qa', 'q'], ['q', 'qb']]);
+        assert.deepEqual([inputs, doubting, ways, state, got, reads], [['10', '20', '20'], 1, 8, 'qb', true, false]);
+        assert.deepEqual(runs.map(it => Cnum.failingEnd(it, doubting, '20').wrong), ['first', null]);
+        const nothing = Cnum.failingUnread(told, unread([ALIKE]));
+        assert.deepEqual([nothing.got, nothing.runs.map(it => it.events.map(wordOf))[1]], [false, [...writes, '1 applies', '2 wavers']]);
+    });
+
+    it('is that with reads where not even reads help, and else none', () => {
+        assert.equal(Cnum.failingWithReads(told).ways, 5);
+        assert.deepEqual(Cnum.failingUnread(told, unread([], { refuted: null, with_reads: true })), Cnum.failingWithReads(told));
+        assert.equal(Cnum.failingUnread(told, unread([], { refuted: null })), null);
+        assert.equal(Cnum.failingUnread(told, unread([ENDLESS])), null);
+        assert.deepEqual([Cnum.failingWithReads({ collisions: [], more: 0 }), Cnum.failingWithReads(null), Cnum.failingUnread(told, null)], [null, null, null]);
     });
 });
 
