@@ -168,6 +168,52 @@ def failing_run(use):
     as_before(use)
 
 
+TO_TRY = "#why p > button:not(.word)"
+
+
+def failing_unread_run(use):
+    """The run that fails without reads, if one process more tries it."""
+    use.open("#example=catalogue/queue_1&reads=no")
+    well = use.until(f"document.querySelectorAll({json.dumps(TO_TRY)}).length === 1", 20)
+    yield "the reason leads to it", well and use.texts(TO_TRY) == ["Let 3 try it without reads"], use.texts(TO_TRY)
+    yield "and so does the screen of the run", use.text("try-anyway") == "Let 3 try it without reads", use.text("try-anyway")
+    use.value(f"document.querySelector({json.dumps(TO_TRY)}).click()")
+    yield "and the link says so", use.until("location.hash === '#example=catalogue/queue_1&reads=no&try=yes'", 5), use.value("location.hash")
+    use.open("#example=catalogue/queue_1&reads=no&try=yes")
+    yield "a link opens it, and it begins with no step", use.value(STEPS) == [[], []], use.value(STEPS)
+    writes = ["writes 10", "writes 20", "writes 20"]
+    wanted = [[*writes, "enq_a/ok", "enq_b/full", "deq/a", "enq_b/ok", "A or B?"], [*writes, "enq_b/ok", "enq_b/full", "A or B?"]]
+    for count in range(1, 9):
+        use.key("ArrowRight", 39)
+        seen = use.value(STEPS)
+        yield f"{count} steps by a key", seen == [it[:count] for it in wanted], seen
+    said = use.value("document.querySelector('.verdict').textContent")
+    well = said.startswith("Process 1 gets the same in both runs, and the object is in state qb after each.") and said.endswith("it is wrong in one of the runs.")
+    yield "it says why the process cannot be right", well, said
+    for value, wrong in (("10", [False, True]), ("20", [True, False])):
+        use.value(PRESS_FAILING % f"Let process 1 decide {value}")
+        yield f"whatever it decides: {value}", use.value(WRONG) == wrong, (use.value(WRONG), use.texts(".outcome"))
+    use.value("(() => document.querySelector('#protocol-part .of-choice button, .of-choice button').click())()")
+    use.until("!document.querySelector('#failing .failing-run')", 5)
+    yield "any number can agree with reads, so there is none", use.is_hidden("try-part") and use.count("#failing .failing-run") == 0 and use.count(".process") > 0, ""
+    for width, height in SIZES:
+        for path in ("catalogue/queue_1", "catalogue/stack_2", "catalogue/weighted_semaphore_3"):
+            sized(use, width, height, "dark")
+            use.open(f"#example={path}&reads=no&try=yes&view=run")
+            use.value("Cnum.page.failing.moveTo(99)")
+            over = use.value(OVER)
+            yield f"{path} fits {width} to {height}", over[:2] == [0, 0] and over[2:] == [] and use.count(".failing-run") == 2, over
+            yield f"{path}: no text lies on another, {width}", use.value(TEXTS_MEET % ".failing-run .space-time") == [], use.value(TEXTS_MEET % ".failing-run .space-time")
+    as_before(use)
+    use.open("#example=types/test_and_set&reads=no")
+    well = use.until(f"document.querySelectorAll({json.dumps(TO_TRY)}).length === 1", 20)
+    yield "where not even reads help, it is the run with reads", well and use.texts(TO_TRY) == ["Let 3 try it anyway"], use.texts(TO_TRY)
+    use.open("#example=catalogue/queue_1&reads=no&try=yes&lang=de")
+    use.value("Cnum.page.failing.moveTo(99)")
+    said = use.value("document.querySelector('.verdict').textContent")
+    yield "it is German", said.startswith("Prozess 1 bekommt in beiden Läufen dasselbe"), said
+
+
 def sheets(use):
     """An exercise and its solution, one page each."""
     for path in ("types/test_and_set", "types/three_shot", "types/sticky_bit", "types/idle", "types/wide", "catalogue/queue_2", "catalogue/fetch_or_and_3bit", "catalogue/window_3"):
@@ -269,6 +315,6 @@ def runs_of_program(use):
 
 
 # The back button comes first, since a browser keeps the last 50 entries of its history alone.
-ALL = (back_button, screens, large_view, failing_run, sheets, printed_run, plain_pictures, runs_of_program)
+ALL = (back_button, screens, large_view, failing_run, failing_unread_run, sheets, printed_run, plain_pictures, runs_of_program)
 # The parts that also run in a browser that is not driven by DevTools.
 WITHOUT_DEVTOOLS = (back_button, plain_pictures, runs_of_program)

@@ -113,14 +113,13 @@ describe('a run', () => {
     const STEPS = [
         { action: 'write', node: 0, process: 0, team: 'A', value: 10 },
         { action: 'write', node: 0, process: 1, team: 'B', value: 20 },
-        { action: 'apply', node: 0, operation: 'tas', process: 1, response: 'zero' },
+        { action: 'apply', after: 'one', before: 'zero', node: 0, operation: 'tas', process: 1, response: 'zero' },
         { action: 'read', judged: 'B', node: 0, process: 1, state: 'one' },
         { action: 'decide', process: 1, value: 20 },
         { action: 'none', process: 1 },
-        { action: 'apply', node: 0, operation: 'tas', process: 0, response: 'one' },
+        { action: 'apply', after: 'one', before: 'one', node: 0, operation: 'tas', process: 0, response: 'one' },
     ];
-    const TABLE = Cnum.examples[0].types[0].text;
-    const events = run.withStates(run.eventsOf(run.withoutStopped(ACTS), STEPS), PLAN, run.movesOf(TABLE));
+    const events = run.eventsOf(run.withoutStopped(ACTS), STEPS);
 
     it('has no act of a process that has decided or stopped', () => {
         const kinds = ['writes', 'writes', 'applies', 'reads', 'decides', 'applies', 'stops'];
@@ -182,6 +181,18 @@ describe('a plan tree', () => {
         steps: [6, 6, 3],
     };
 
+    it('of a certificate has the steps of a run of each process alone', () => {
+        const role = team => ({ judges: [], operation: `put${team}`, team: 'AB'[team] });
+        const at = (node, team) => ({ node, role: team, team: 'AB'[team] });
+        const told = { nodes: 2, paths: [[at(0, 0)], [at(1, 0), at(0, 1)], [at(1, 1), at(0, 1)]], processes: 3, roles: [role(0), role(1)], start: 'unset', type: 'sticky_bit' };
+        const steps = [4, 8, 8].flatMap((count, process) => [...Array(count).fill({ action: 'write', process }), { action: 'none', process }]);
+        const plan = Cnum.plans.ofCertificate(told, { steps });
+        assert.deepEqual([plan.steps, plan.most, plan.reads, plan.comeBack], [[4, 8, 8], 8, true, false]);
+        assert.deepEqual(plan.nodes, Array(2).fill({ start: 'unset', teams: ['A', 'B'], roles: [a, b] }));
+        const schedule = Cnum.plans.oneByOne(8).split(',');
+        assert.deepEqual([schedule.length, schedule[0], schedule[64]], [512, '0', '1']);
+    });
+
     it('leaves the witness of the certificate in the picture of the states', () => {
         const { text } = Cnum.examples.flatMap(group => group.types).find(it => it.path === 'types/sticky_bit');
         assert.deepEqual(Cnum.plans.ofWitness([0, [0], [1, 1]], text), { start: 'unset', roles: [a, b, b] });
@@ -205,10 +216,10 @@ describe('a plan tree', () => {
     it('has names for its teams, and tells a team without a read', () => {
         const steps = [
             { action: 'write', node: 0, process: 2, team: 1, value: 30 },
-            { action: 'apply', judged: 1, node: 0, operation: 'put1', process: 2, response: 'one' },
+            { action: 'apply', after: 'one', before: 'unset', judged: 1, node: 0, operation: 'put1', process: 2, response: 'one' },
             { action: 'decide', process: 2, value: 30 },
         ];
-        const events = run.withStates(run.eventsOf(Array(3).fill(step(2)), steps), PLAN, () => 'one');
+        const events = run.eventsOf(Array(3).fill(step(2)), steps);
         assert.deepEqual(events.map(it => [it.kind, it.team]), [['writes', 'B'], ['applies', 'B'], ['decides', undefined]]);
         assert.deepEqual(run.after(events, PLAN).nodes[0].registers, { B: '30' });
     });
@@ -246,12 +257,12 @@ describe('a plan tree', () => {
     it('tells the team that a look shows, and changes no object by it', () => {
         const steps = [
             { action: 'write', node: 0, process: 1, team: 1, value: 20 },
-            { action: 'apply', node: 0, operation: 'put1', process: 1, response: 'ok' },
+            { action: 'apply', after: 'one', before: 'unset', node: 0, operation: 'put1', process: 1, response: 'ok' },
             { action: 'look', judged: 1, node: 0, operation: 'get', process: 1, response: 'one' },
             { action: 'decide', process: 1, value: 20 },
         ];
         const plan = Cnum.plans.ofTree(LOOKING);
-        const events = run.withStates(run.eventsOf(Array(4).fill(step(1)), steps), plan, () => 'one');
+        const events = run.eventsOf(Array(4).fill(step(1)), steps);
         const { does, ...told } = events[2];
         assert.deepEqual([does, told], [run.STEP, { kind: 'sees', node: 0, operation: 'get', process: 1, response: 'one', team: 'B' }]);
         assert.deepEqual(events.map(it => it.after), [undefined, 'one', undefined, undefined]);
@@ -331,32 +342,44 @@ describe('processes that come back', () => {
     const write = (process, node, team, value) => ({ action: 'write', node, process, team, value });
     const look = (process, node, state) => ({ action: 'read', judged: null, node, process, state });
     const take = (process, node, team, value) => ({ action: 'take', node, process, team, value });
-    const apply = (process, node, operation, response) => ({ action: 'apply', node, operation, process, response });
+    const apply = (process, node, operation, after) => ({ action: 'apply', after, before: 'unset', node, operation, process, response: after });
     const read = (process, node, state, judged) => ({ action: 'read', judged, node, process, state });
     const decide = (process, value) => ({ action: 'decide', process, value });
-    // What each of three processes does alone at a sticky bit.
-    const second = [write(1, 1, 'A', 20), look(1, 1, 'unset'), take(1, 1, 'B', null), apply(1, 1, 'put0', 'zero'), read(1, 1, 'zero', 'A'), take(1, 1, 'A', 20)];
+    // What processes do alone at a sticky bit.
     const third = [write(2, 1, 'B', 30), look(2, 1, 'unset'), apply(2, 1, 'put1', 'one'), read(2, 1, 'one', 'B'), take(2, 1, 'B', 30)];
-    const atRoot = (process, value) => [write(process, 0, 'B', value), look(process, 0, 'unset'), apply(process, 0, 'put1', 'one'), read(process, 0, 'one', 'B'), decide(process, value)];
     const first = [write(0, 0, 'A', 10), look(0, 0, 'unset'), take(0, 0, 'B', null), apply(0, 0, 'put0', 'zero'), read(0, 0, 'zero', 'A'), decide(0, 10)];
-    const PLAN = Cnum.lives.planOf([first, [...second, ...atRoot(1, 20)], [...third, ...atRoot(2, 30), { action: 'none', process: 2 }]]);
+    const roles = [{ operation: 'put0', team: 'A' }, { operation: 'put1', team: 'B' }];
+    const at = (node, role) => ({ node, role, team: roles[role].team });
+    const TOLD = {
+        judges: [{ state: 'zero', team: 'A' }, { state: 'one', team: 'B' }],
+        lone: true,
+        nodes: 2,
+        paths: [[at(0, 0)], [at(1, 0), at(0, 1)], [at(1, 1), at(0, 1)]].map((places, process) => ({ places, process, steps: 6 * places.length })),
+        processes: 3,
+        roles,
+        start: 'unset',
+        steps: 12,
+        type: 'sticky_bit',
+    };
+    const PLAN = Cnum.plans.ofLives(TOLD);
 
-    it('have the plan by which each does its steps alone', () => {
-        const roles = [{ operation: 'put0', team: 'A' }, { operation: 'put1', team: 'B' }];
+    it('have the plan that the program tells', () => {
         const [a, b] = roles;
         const paths = [[{ node: 0, ...a }], [{ node: 1, ...a }, { node: 0, ...b }], [{ node: 1, ...b }, { node: 0, ...b }]];
         const [root, below] = [roles, roles].map(it => ({ start: 'unset', teams: ['A', 'B'], roles: it }));
         assert.deepEqual(PLAN, { comeBack: true, most: 12, nodes: [root, below], paths, processes: 3, reads: true, steps: [6, 12, 12] });
-        const ofB = [write(1, 0, 'B', 20), look(1, 0, 'unset'), apply(1, 0, 'put0', 'zero'), read(1, 0, 'zero', 'B'), decide(1, 20)];
-        const both = [{ operation: 'put0', team: 'A' }, { operation: 'put0', team: 'B' }];
-        assert.deepEqual(Cnum.lives.planOf([first, ofB]).nodes[0].roles, both);
+        const [ofA, ofB] = ['A', 'B'].map(team => ({ operation: 'put0', team }));
+        assert.deepEqual(Cnum.plans.ofLives({ ...TOLD, roles: [ofA, ofB] }).nodes[0].roles, [ofA, ofB]);
     });
 
+    const crashed = (process, forgets) => ({ action: 'crash', forgets, process });
     const ACTS = [...Array(5).fill(step(2)), step(2), crash(2), step(2), step(0), stop(0), crash(1), crash(0)];
-    const STEPS = [...third, write(2, 0, 'B', 30), { action: 'crash', process: 2 }, write(2, 1, 'B', 30), write(0, 0, 'A', 10), { action: 'crash', process: 1 }];
+    const [behind, before] = [crashed(2, { node: 0, value: 30 }), crashed(1, { node: 1, value: 20 })];
+    const STEPS = [...third, write(2, 0, 'B', 30), behind, write(2, 1, 'B', 30), write(0, 0, 'A', 10), before];
     const INPUTS = ['10', '20', '30'];
-    const eventsOf = (acts, steps) => Cnum.lives.withForgotten(run.withStates(run.eventsOf(run.withoutStopped(acts), steps), PLAN, () => 'one'), INPUTS);
+    const eventsOf = (acts, steps) => run.eventsOf(run.withoutStopped(acts), steps);
     const events = eventsOf(ACTS, STEPS);
+    const memoryOf = (its, process) => Cnum.lives.memoryAfter(its, process, INPUTS[process], PLAN.paths[process]);
 
     it('crash in the schedule, and stop beside it', () => {
         assert.equal(run.scheduleOf(run.withoutStopped(ACTS)), '2,2,2,2,2,2,c2,2,0,c1');
@@ -367,9 +390,10 @@ describe('processes that come back', () => {
     });
 
     it('forget their place and their value, and objects and registers keep what they have', () => {
-        assert.deepEqual(events[6].forgot, { place: 1, value: '30', last: events[5], decision: null });
-        assert.deepEqual(events[10].forgot, { place: 0, value: '20', last: null, decision: null });
-        assert.deepEqual(Cnum.lives.memoryAfter(events, 2, '30'), { place: 0, value: '30', last: events[7], decision: null });
+        assert.deepEqual(events[6].forgot, { node: 0, value: '30' });
+        assert.deepEqual(events[10].forgot, { node: 1, value: '20' });
+        assert.deepEqual(memoryOf(events, 2), { node: 1, value: '30', last: events[7] });
+        assert.deepEqual(memoryOf(events.slice(0, 5), 2), { node: 0, value: '30', last: null });
         assert.equal(Cnum.lives.forgottenBy(events, 2), events[6].forgot);
         assert.equal(Cnum.lives.forgottenBy(events, 0), null);
         const { nodes, processes } = run.after(events, PLAN);
@@ -387,10 +411,11 @@ describe('processes that come back', () => {
 
     it('forget their decision too, and go on', () => {
         const acts = [...Array(8).fill(step(0)), crash(0), step(0), crash(0)];
-        const [none, crashed] = ['none', 'crash'].map(action => ({ action, process: 0 }));
-        const twice = eventsOf(acts, [...first, none, none, crashed, first[0], crashed]);
-        assert.deepEqual(twice[8].forgot, { place: 0, value: '10', last: twice[7], decision: null });
-        assert.deepEqual(Cnum.lives.memoryAfter(twice, 0, '10'), { place: 0, value: '10', last: null, decision: null });
+        const none = { action: 'none', process: 0 };
+        const twice = eventsOf(acts, [...first, none, none, crashed(0, { decision: 10 }), first[0], crashed(0, { node: 0, value: 10 })]);
+        assert.deepEqual(twice[8].forgot, { node: 0, value: '10' });
+        assert.deepEqual(memoryOf(twice, 0), { node: 0, value: '10', last: null });
+        assert.deepEqual(memoryOf(twice.slice(0, 6), 0), { node: 0, value: '10', decision: '10' });
         const told = twice.slice(0, 8);
         assert.deepEqual(told.slice(5).map(it => it.kind), ['decides', 'crashes', 'writes']);
         assert.equal(told[6].forgot.decision, '10');
@@ -625,6 +650,47 @@ describe('the run that fails', () => {
         const { runs, doubting } = Cnum.failingRuns(OWN);
         assert.deepEqual(runs[0].events.map(wordOf).slice(3), ['0 applies', '1 applies', '0 doubts one']);
         assert.deepEqual(runs.map(it => Cnum.failingEnd(it, doubting, '20').wrong), ['first', null]);
+    });
+
+    // A queue of one item that nobody reads, as `why --without-read --all` tells of it.
+    const move = (process, operation, response, state) => ({ operation, process, response, state });
+    const enqueued = ['a', 'a', 'a'].map((item, place) => ({ operation: `enq_${item}`, team: 'ABB'[place] }));
+    const ALIKE = { a_first: [move(0, 'enq_a', 'ok', 'qa')], b_first: [move(1, 'enq_a', 'ok', 'qa')], process: 2, processes: enqueued, start: 'q' };
+    const OTHERS = {
+        a_first: [move(0, 'enq_a', 'ok', 'qa'), move(2, 'enq_b', 'full', 'qa'), move(2, 'deq', 'a', 'q'), move(1, 'enq_b', 'ok', 'qb')],
+        b_first: [move(1, 'enq_b', 'ok', 'qb'), move(2, 'enq_b', 'full', 'qb')],
+        process: 1,
+        processes: ['a', 'b', 'b'].map((item, place) => ({ operation: `enq_${item}`, team: 'ABB'[place] })),
+        start: 'q',
+    };
+    const ENDLESS = { ...ALIKE, a_first: [], b_first: [], process: null };
+    const unread = (choices, more) => ({ merged: [], refuted: { choices, count: 8 }, with_reads: false, ...more });
+    const told = { collisions: [CHOICE], more: 4 };
+
+    it('without reads is one that different operations begin, if there is one with an end', () => {
+        assert.equal(Cnum.wayToShow({ choices: [ENDLESS, ALIKE, OTHERS] }), OTHERS);
+        assert.equal(Cnum.wayToShow({ choices: [ENDLESS, ALIKE] }), ALIKE);
+        assert.equal(Cnum.wayToShow({ choices: [ENDLESS] }), null);
+    });
+
+    it('without reads lets nobody decide before the end', () => {
+        const { runs, inputs, doubting, ways, state, got, reads } = Cnum.failingUnread(told, unread([OTHERS]));
+        const writes = ['0 writes 10', '1 writes 20', '2 writes 20'];
+        const wanted = [[0, 2, 2, 1], [1, 2]].map(its => [...writes, ...its.map(it => `${it} applies`), '1 wavers']);
+        assert.deepEqual(runs.map(it => it.events.map(wordOf)), wanted);
+        assert.deepEqual(runs[0].events.slice(3, 7).map(it => [it.before, it.after]), [['q', 'qa'], ['qa', 'qa'], ['qa', 'q'], ['q', 'qb']]);
+        assert.deepEqual([inputs, doubting, ways, state, got, reads], [['10', '20', '20'], 1, 8, 'qb', true, false]);
+        assert.deepEqual(runs.map(it => Cnum.failingEnd(it, doubting, '20').wrong), ['first', null]);
+        const nothing = Cnum.failingUnread(told, unread([ALIKE]));
+        assert.deepEqual([nothing.got, nothing.runs.map(it => it.events.map(wordOf))[1]], [false, [...writes, '1 applies', '2 wavers']]);
+    });
+
+    it('is that with reads where not even reads help, and else none', () => {
+        assert.equal(Cnum.failingWithReads(told).ways, 5);
+        assert.deepEqual(Cnum.failingUnread(told, unread([], { refuted: null, with_reads: true })), Cnum.failingWithReads(told));
+        assert.equal(Cnum.failingUnread(told, unread([], { refuted: null })), null);
+        assert.equal(Cnum.failingUnread(told, unread([ENDLESS])), null);
+        assert.deepEqual([Cnum.failingWithReads({ collisions: [], more: 0 }), Cnum.failingWithReads(null), Cnum.failingUnread(told, null)], [null, null, null]);
     });
 });
 
@@ -921,14 +987,12 @@ describe('places of flaws', () => {
 });
 
 describe('notes on a table', () => {
-    const LOOP = { name: 'nop', response: ['ok', 'ok'], next: ['s0', 's1'] };
-
     it('tell what is never reached and what changes nothing', () => {
-        const text = Cnum.FIRST_TABLE.replace('"op0"', `"${LOOP.name}"`).replace('next = ["s1", "s1"]', 'next = ["s0", "s1"]');
-        assert.deepEqual(Cnum.notesOf(text), ['State s1 cannot be reached from s0.', 'Operation nop changes nothing.']);
-        assert.deepEqual(Cnum.notesOf(Cnum.FIRST_TABLE), []);
-        const look = text.replace(/response = .*/, 'response = ["ok", "no"]').replace('responses = [', 'responses = ["no", ');
-        assert.equal(Cnum.notesOf(look)[1], 'Operation nop changes nothing. It counts where the state cannot be read.');
+        const of = told => Cnum.notesOf(Cnum.FIRST_TABLE, { flaws: [], idle: [], unreached: [], ...told });
+        const [nop, look] = [{ operation: 'nop', answers: false }, { operation: 'look', answers: true }];
+        assert.deepEqual(of({ idle: [nop], unreached: ['s1'] }), ['State s1 cannot be reached from s0.', 'Operation nop changes nothing.']);
+        assert.deepEqual(of({}), []);
+        assert.deepEqual(of({ idle: [look] }), ['Operation look changes nothing. It counts where the state cannot be read.']);
     });
 });
 
@@ -1318,10 +1382,10 @@ describe('the explanation of a certificate by stocks', () => {
         const register = of(1, 1, null, joins);
         const told = shown('types/binary_register', register);
         has(told, 'One process alone', 'Why not 2: 2 joins;', 'done twice in a row', 'whose runs 2 processes can do', 'for 2: this is proved.');
-        has(told, 'from zero: write0/ok and write1 write0/ok both leave zero: write0 and write1 are in one team');
-        has(told, 'from one: write0 write1/ok and write1/ok both leave one: write0 and write1 are in one team');
+        has(told, 'from zero: write0* and write1 write0* leave the same state: write0 and write1 are in one team');
+        has(told, 'from one: write0 write1* and write1* leave the same state: write0 and write1 are in one team');
         const german = shown('types/binary_register', register, 'de');
-        has(german, 'von one aus: write0 write1/ok und write1/ok enden beide in one: write0 und write1 sind in einem Team');
+        has(german, 'von one aus: write0 write1* und write1* enden in demselben Zustand: write0 und write1 sind in einem Team');
         has(shown('types/binary_register', of(1, 2, null, joins.slice(1))), 'Why not 3: 1 join;', 'a third one sees the same');
     });
 

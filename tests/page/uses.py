@@ -1218,7 +1218,7 @@ def forgotten(use):
     """What a process forgot, in the log, at the process, in the diagram and in the tournament; undo, the slider, keys and links."""
     use.open(CRASHED)
     told = use.value(CHANGES)
-    yield "each crash tells what is forgotten", told[1::2] == ["(forgets: node 0, value 30, last step: reads unset)", "(forgets: decision 30)"], told
+    yield "each crash tells what is forgotten", told[1::2] == ["(forgets: node 0, value 30)", "(forgets: decision 30)"], told
     seen = use.texts(".memory")[2], use.texts(".forgot"), use.texts(".decision")[2]
     wanted = "Memory: node 1, value 30", ["", "", "Forgot: decision 30"], "0 of at most 12 steps, undecided, crashed 2 times"
     yield "a process knows nothing but its proposal again", seen == wanted, seen
@@ -1227,9 +1227,10 @@ def forgotten(use):
     marks = use.texts(".space-time .crashes"), use.count(".space-time .bolt"), use.value(TEXTS_MEET % ".space-time")
     yield "the diagram marks each crash", marks == (["crashes"] * 2, 2, []), marks
     places = use.texts(".tournament .lit"), use.texts(".tournament .forgotten")
-    yield "the tournament tells where each is, and the place that is forgotten", places == (["A 0: put0", "A 1: put0", "B 2: put1"], ["B 2: put1"]), places
+    yield "the tournament tells where each is", places == (["A 0: put0", "A 1: put0", "B 2: put1"], []), places
     use.slide(8)
-    yield "the slider leads back", use.texts(".forgot")[2] == "Forgot: node 0, value 30, last step: reads unset", use.texts(".forgot")
+    yield "the slider leads back", use.texts(".forgot")[2] == "Forgot: node 0, value 30", use.texts(".forgot")
+    yield "the tournament tells the place that is forgotten", use.texts(".tournament .forgotten") == ["B 2: put1"], use.texts(".tournament .forgotten")
     use.press("Undo")
     yield "a crash is undone", use.until("document.querySelectorAll('.log li').length === 7") and use.texts(".forgot")[2] == "", use.texts(".forgot")
     yield "the link says so", use.until("location.hash.endsWith('&crashes=yes&inputs=10,20,30&run=2,2,2,2,2,2,2')", 5), use.value("location.hash")
@@ -1506,7 +1507,7 @@ def certificates(use):
     yield "the answer can be closed", use.is_hidden("notice"), ""
     yield "a certificate that is no JSON is not explained", use.text("claim-told") == "", use.text("claim-told")
     use.value(drop % f"'claim.json', {json.dumps(stocks)}")
-    line = "from zero: tas/zero and tas/zero both leave one: tas and tas are in one team"
+    line = "from zero: tas* and tas* leave the same state: tas and tas are in one team"
     well = use.until(f"document.getElementById('claim-told').textContent.includes({json.dumps(line)})", 10)
     yield "a certificate by stocks is explained, a line for each join", well, use.text("claim-told")
     use.value("(() => { document.querySelector('#claim-told details').open = true; })()")

@@ -28,24 +28,22 @@ var Cnum = globalThis.Cnum || {};
             return Boolean(this.failing);
         }
 
-        // Takes the reasons of a number: there is a run if they have a collision.
-        show(told) {
-            const choice = Cnum.collisionToShow(told);
-            if (!choice) return;
-            this.failing = Cnum.failingRuns(choice);
-            this.ways = told.collisions.length + told.more;
+        // Takes runs that fail, if there are any.
+        show(failing) {
+            this.clear();
+            this.failing = failing;
             this.isDrawn = false;
         }
 
         // What the button says that leads here.
         title() {
-            return this.failing ? say('try_anyway', { count: this.failing.processes.length }) : '';
+            return this.failing ? say(this.failing.reads ? 'try_anyway' : 'try_unread', { count: this.failing.processes.length }) : '';
         }
 
         // Draws all, once it is wanted.
         draw() {
             const { failing } = this;
-            const picture = this.page.picture({ start: failing.start, roles: failing.processes });
+            const picture = this.page.picture({ start: failing.start, roles: failing.processes }, failing.merged);
             this.decision = null;
             this.columns = failing.runs.map((it, index) => this.column(it, index, index ? picture.cloneNode(true) : picture));
             this.verdict = element('p', { class: 'verdict', 'aria-live': 'polite' });
@@ -64,9 +62,10 @@ var Cnum = globalThis.Cnum || {};
         }
 
         intro() {
-            const { failing } = this;
-            const words = { count: failing.processes.length, start: failing.start, tasks: tasks(failing.processes), ways: this.ways };
-            return say(this.ways === 1 ? 'fail_intro_one' : 'fail_intro', words);
+            const { processes, start, ways, reads } = this.failing;
+            const words = { count: processes.length, start, tasks: tasks(processes), ways };
+            if (!reads) return say(ways === 1 ? 'fail_intro_unread_one' : 'fail_intro_unread', words);
+            return say(ways === 1 ? 'fail_intro_one' : 'fail_intro', words);
         }
 
         controls() {
@@ -161,11 +160,18 @@ var Cnum = globalThis.Cnum || {};
             return this.decision ? say('fail_right', words) : '';
         }
 
+        // What the process gets in both runs.
+        sameText() {
+            const { doubting: process, reads, sight, state, got } = this.failing;
+            if (reads) return say('fail_same', { process, ...sight });
+            return say(got ? 'fail_same_unread' : 'fail_nothing', { process, state });
+        }
+
         // Why whatever the process decides is wrong in one of the runs.
         verdictText() {
-            const { doubting: process, sight, runs } = this.failing;
+            const { doubting: process, runs } = this.failing;
             const [one, two] = runs.map(it => it.decidedBy);
-            const same = say('fail_same', { process, ...sight });
+            const same = this.sameText();
             const [first, second] = runs.map(it => it.value);
             const words = { process, one, two, first, second };
             return `${same} ${say(one === null || two === null ? 'fail_whatever_first' : 'fail_whatever', words)}`;

@@ -71,7 +71,6 @@ var Cnum = globalThis.Cnum || {};
                 agree: words => this.choice.agree(this.quick, words),
                 tryOut: words => this.choice.agree(this.adversary, words),
                 breakOff: () => this.adversary.breakOff(),
-                next: () => Cnum.run.movesOf(this.table),
                 picture: plan => Cnum.pictureOf(this.graph, plan),
                 mainPicture: () => this.mainPicture(),
                 changed: () => this.address.keepSoon(),
@@ -84,7 +83,7 @@ var Cnum = globalThis.Cnum || {};
         // What the run that fails needs of the page.
         forFailing() {
             return {
-                picture: plan => Cnum.pictureOf(this.graph, plan),
+                picture: (plan, merged) => Cnum.pictureOf(Cnum.mergedGraph(this.graph, merged), plan),
                 name: () => this.nameOfType(),
                 close: () => this.tryAnyway(false),
             };
@@ -228,15 +227,20 @@ var Cnum = globalThis.Cnum || {};
             at(part).focus();
         }
 
-        // Shows the run that fails if one process more tries it, or the protocol again.
+        // Leads to the run that fails if one process more tries it, or back to the protocol.
         tryAnyway(isTried) {
+            this.showAnyway(isTried);
+            if (this.isTried) this.screens.open('run');
+            this.screens.afterwards();
+            this.address.keepSoon();
+        }
+
+        // Shows the run that fails in the place of the protocol, if it is wanted and there is one.
+        showAnyway(isTried) {
             this.isTried = isTried && this.failing.isThere();
             at('protocol').hidden = at('choices').hidden = this.isTried;
             at('failing').hidden = !this.isTried;
             if (this.isTried) this.failing.draw();
-            if (this.isTried) this.screens.open('run');
-            this.screens.afterwards();
-            this.address.keepSoon();
         }
 
         // The certificate for as many processes as the program can, or as were chosen.
@@ -328,9 +332,10 @@ var Cnum = globalThis.Cnum || {};
             const lint = await this.ask(this.quick, ['lint', '--as', 'json']);
             if (!lint) return;
             const isTable = lint.status === 0;
-            this.editor.show(lint.stdout ? JSON.parse(lint.stdout).flaws : []);
+            const told = lint.stdout ? JSON.parse(lint.stdout) : { flaws: [] };
+            this.editor.show(told.flaws);
             at('fault').textContent = isTable ? '' : Cnum.inWords(lint);
-            at('notes').replaceChildren(...(isTable ? Cnum.notesOf(this.table) : []).map(it => element('li', {}, it)));
+            at('notes').replaceChildren(...(isTable ? Cnum.notesOf(this.table, told) : []).map(it => element('li', {}, it)));
             this.forget(isTable ? '' : say('no_number'));
             this.comparison.show(isTable ? this.table : '');
             if (isTable && this.screens.view === 'pairs') this.comparison.pair();
@@ -407,9 +412,17 @@ var Cnum = globalThis.Cnum || {};
             at('certificate-said').textContent = this.certified < Math.min(MOST_PROCESSES, Cnum.leastOf(told.number)) ? say('evidence_apart', this) : '';
             this.numbers.tell(true, told.number);
             this.tellBound();
-            this.failing.show(told, this.table);
+            if (this.reads || !this.reasons.has(false)) this.tellFailing();
+            else this.showUnreadReasons();
+        }
+
+        // Offers the run that fails for one process more, of the number that is chosen, if its reasons are known and have one.
+        tellFailing() {
+            const { told, reads } = this;
+            this.failing.show(reads ? Cnum.failingWithReads(told) : Cnum.failingUnread(told, this.reasons.get(false)));
             at('try-part').hidden = !this.failing.isThere();
             at('try-anyway').textContent = this.failing.title();
+            this.showAnyway(this.isTried);
         }
 
         // What the number with reads says of objects that cannot be read: nothing more can agree through them.
@@ -490,7 +503,9 @@ var Cnum = globalThis.Cnum || {};
             const told = this.reasons.get(false);
             const graph = told && Cnum.mergedGraph(this.graph, told.merged);
             const picture = ({ start, processes }) => Cnum.pictureOf(graph, { start, roles: processes });
-            Cnum.showUnreadExplanation(at('why'), told, { picture, printed: () => this.printedUnread() });
+            this.tellFailing();
+            const trying = { tryAnyway: () => this.tryAnyway(true), anyway: this.failing.title() };
+            Cnum.showUnreadExplanation(at('why'), told, { picture, printed: () => this.printedUnread(), ...trying });
             Cnum.explainWords(at('why'));
             if (told) this.redraw();
         }
@@ -499,6 +514,7 @@ var Cnum = globalThis.Cnum || {};
         chooseReads(reads) {
             this.reads = reads;
             this.tellChoice();
+            this.tellFailing();
             if (at('picture').firstElementChild) this.redraw();
             this.explain();
             if (this.told) this.choice.offerLimits();

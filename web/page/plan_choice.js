@@ -160,8 +160,11 @@ var Cnum = globalThis.Cnum || {};
             if (!find) return null;
             const files = { [CERTIFICATE]: find.stdout };
             const show = await this.page.ask(this.page.search, ['show', '--as', 'json', CERTIFICATE], files);
-            const agreement = { words: ['agree', '--steps', '--as', 'json', CERTIFICATE], files, table: this.page.table };
-            return show && { plan: Cnum.plans.ofCertificate(JSON.parse(show.stdout)), agreement };
+            const words = ['agree', '--steps', '--as', 'json', CERTIFICATE];
+            const alone = [Cnum.firstInputs(number).join(','), Cnum.plans.oneByOne(number)];
+            const run = await this.page.ask(this.page.search, [...words, ...alone], files);
+            const agreement = { words, files, table: this.page.table };
+            return show && run && { plan: Cnum.plans.ofCertificate(JSON.parse(show.stdout), JSON.parse(run.stdout)), agreement };
         }
 
         // Shows a plan, and in the picture of the states the start and the teams of this witness.
@@ -179,7 +182,6 @@ var Cnum = globalThis.Cnum || {};
         }
 
         // The protocol of processes that crash and come back, as many as a link has or as were chosen, if so many can agree.
-        // The program tells its plan by the steps of each process alone.
         async showLives(linked, recoverable) {
             const most = Math.min(Cnum.sizes.MOST, Cnum.leastOf(recoverable));
             if (most < 2) {
@@ -189,29 +191,14 @@ var Cnum = globalThis.Cnum || {};
             const wanted = linked.inputs.length > 1 ? linked.inputs.length : this.limit;
             const processes = Math.min(most, wanted || Cnum.sizes.usual(recoverable, most));
             at('come-back-said').textContent = say('come_back_said', { count: processes });
-            const words = ['agree', '--recoverable', '--processes', String(processes), '--steps', '--as', 'json', '-'];
-            this.agreement = { words, files: {}, table: this.page.table };
-            const runs = await this.runsAlone(processes);
-            if (!runs) return;
-            const plan = Cnum.lives.planOf(runs);
+            const [options, form] = [['--recoverable', '--processes', String(processes)], ['--as', 'json', '-']];
+            this.agreement = { words: ['agree', ...options, '--steps', ...form], files: {}, table: this.page.table };
+            const show = await this.page.timed(this.page.ask(this.page.search, ['show', ...options, ...form]));
+            if (show && show.status !== 0) this.refuseLives(Cnum.inWords(show));
+            if (!show || show.status !== 0) return;
+            const plan = Cnum.plans.ofLives(JSON.parse(show.stdout));
             at('protocol-of').textContent = say('protocol_reads');
             await this.showPlan(plan, linked, plan.nodes[0]);
-        }
-
-        // The steps of each process alone. If they do not come, the answer is null.
-        async runsAlone(processes) {
-            const { scheduleOf, stepOf } = Cnum.run;
-            const most = Cnum.lives.mostSteps(processes);
-            const runs = [];
-            for (let process = 0; process < processes; process++) {
-                const acts = Array(most).fill(stepOf(process));
-                const words = [...this.agreement.words, Cnum.firstInputs(processes).join(','), scheduleOf(acts)];
-                const answer = await this.page.timed(this.page.ask(this.page.search, words));
-                if (answer && answer.status !== 0) this.refuseLives(Cnum.inWords(answer));
-                if (!answer || answer.status !== 0) return null;
-                runs.push(Cnum.exactValueOf(answer.stdout).steps);
-            }
-            return runs;
         }
 
         // What `agree` says of a run, by these further words.

@@ -1,6 +1,6 @@
 // Plans of protocols in the one form that the page shows: { processes, comeBack, reads, steps, most, nodes, paths }.
 // Without a crash, a process takes at most its number of `steps` before it has decided, and `most` is the greatest of these
-// numbers; `reads` says whether some process reads the state of an object. Each node has a start state, the names of its teams,
+// numbers, as the program tells both; `reads` says whether some process reads the state of an object. Each node has a start state, the names of its teams,
 // its roles, each operation with its team, once, and `look`, the operation that changes nothing by which its processes look
 // behind their own, if they do so. A path has the node, the team and the operation of each place of a process, from its first
 // node to the root.
@@ -11,7 +11,7 @@ var Cnum = globalThis.Cnum || {};
 
     const NAMES = ['A', 'B', 'C', 'D', 'E', 'F', 'G', 'H'];
     const TWO_TEAMS = NAMES.slice(0, 2);
-    const STEPS = 4; // of a process at a node where it reads the state
+    const LONG = 64; // more steps than a process of a certificate's plan takes
     const { say } = Cnum;
 
     // The kinds of plans that a reader can choose.
@@ -32,18 +32,29 @@ var Cnum = globalThis.Cnum || {};
         return all.filter((it, place) => all.findIndex(other => isSame(it, other)) === place);
     }
 
-    // A plan in which two teams meet at each node, all objects start in the same state, and a process reads, and takes at most
-    // so many steps at a node.
-    function chainOf({ comeBack, stepsOfNode, start, count, paths }) {
+    // A plan in which two teams meet at each node, all objects start in the same state, and a process reads. `steps` are those
+    // of its processes, of which the greatest is `most`.
+    function chainOf({ start, nodes: count, roles }, { comeBack, steps, most, placesOf }) {
+        const placeOf = ({ node, team, role }) => ({ node, team, operation: roles[role].operation });
+        const paths = placesOf.map(places => places.map(placeOf));
         const nodes = Array.from({ length: count }, (_, node) => ({ start, teams: TWO_TEAMS, roles: rolesAt(node, paths) }));
-        const steps = paths.map(path => stepsOfNode * path.length);
-        return { processes: paths.length, comeBack, reads: true, steps, most: Math.max(...steps), nodes, paths };
+        return { processes: paths.length, comeBack, reads: true, steps, most, nodes, paths };
     }
 
-    // The plan of a certificate, of what `show --as json` tells.
-    function ofCertificate({ start, nodes, roles, paths }) {
-        const placeOf = ({ node, team, role }) => ({ node, team, operation: roles[role].operation });
-        return chainOf({ comeBack: false, stepsOfNode: STEPS, start, count: nodes, paths: paths.map(path => path.map(placeOf)) });
+    // The plan of a certificate, of what `show --as json` tells, and of the steps of a run in which each process goes alone: it
+    // takes as many in each run.
+    function ofCertificate(told, { steps: run }) {
+        const steps = told.paths.map((_, process) => run.filter(it => it.process === process && it.action !== 'none').length);
+        return chainOf(told, { comeBack: false, steps, most: Math.max(...steps), placesOf: told.paths });
+    }
+
+    // The schedule of such a run of so many processes.
+    const oneByOne = processes => Array.from({ length: processes }, (_, process) => Array(LONG).fill(process)).join(',');
+
+    // The plan of processes that come back, of what `show --recoverable --as json` tells. Its steps are those of one life.
+    function ofLives(told) {
+        const { paths, steps: most } = told;
+        return chainOf(told, { comeBack: true, steps: paths.map(it => it.steps), most, placesOf: paths.map(it => it.places) });
     }
 
     // A plan tree, of what `show --shortest --as json` or `show --without-read --as json` tells.
@@ -94,5 +105,5 @@ var Cnum = globalThis.Cnum || {};
     const leastOf = kind => ({ [SHORTEST]: 'plan_least', [WITHOUT_READS]: 'plan_least_unread' })[kind];
 
     const kinds = { SHORTEST, CERTIFICATE, WITHOUT_READS, KINDS };
-    Cnum.plans = { NAMES, kinds, teamName, chainOf, ofCertificate, ofTree, ofWitness, commandsOf, taskAt, looks, whyNone, leastOf };
+    Cnum.plans = { NAMES, kinds, teamName, ofCertificate, oneByOne, ofLives, ofTree, ofWitness, commandsOf, taskAt, looks, whyNone, leastOf };
 })();

@@ -9,9 +9,8 @@ var Cnum = globalThis.Cnum || {};
 
     class Protocol {
         // Shows protocols in this place. `agree` runs the command with these inputs and this schedule, and
-        // `tryOut` does so where it can be broken off, by `breakOff`. `next` gives the state after an
-        // operation in a state. `picture` gives a picture of the states, and `light` lights a state up in
-        // another one. `changed` is called when the content of the link has changed, `say` with what
+        // `tryOut` does so where it can be broken off, by `breakOff`. `picture` gives a picture of the states, and
+        // `mainPicture` the one in which the state is lit up too. `changed` is called when the content of the link has changed, `say` with what
         // happened last, and `save` with a picture to save.
         constructor(place, page) {
             Object.assign(this, { place, page });
@@ -37,7 +36,6 @@ var Cnum = globalThis.Cnum || {};
         show(plan, inputs, acts) {
             this.plan = plan;
             this.answers = new Map();
-            this.next = this.page.next();
             this.inputs = inputs.length === plan.processes ? inputs : Cnum.firstInputs(plan.processes);
             this.view = new Cnum.RunView(this.place, this);
             return this.set(acts);
@@ -123,12 +121,11 @@ var Cnum = globalThis.Cnum || {};
         }
 
         async ask(agree, acts) {
-            const { plan, inputs, next } = this;
-            const answer = await agree([inputs.join(','), run.scheduleOf(acts)]);
+            const answer = await agree([this.inputs.join(','), run.scheduleOf(acts)]);
             if (answer.isBrokenOff) return null;
             if (answer.status !== 0) return { fault: Cnum.inWords(answer) };
             const { steps } = Cnum.exactValueOf(answer.stdout);
-            return { events: Cnum.lives.withForgotten(run.withStates(run.eventsOf(acts, steps), plan, next), inputs) };
+            return { events: run.eventsOf(acts, steps) };
         }
 
         // Runs the acts, and shows what the program says of them.

@@ -20,11 +20,16 @@ var Cnum = globalThis.Cnum || {};
         return action === 'take' && value === null ? 'misses' : KINDS[action];
     }
 
+    // What is told with its value as a text, if it has one.
+    const withText = ({ value = null, ...rest }) => ({ ...rest, ...(value !== null && { value: String(value) }) });
+
     // A step as an event. The values of processes are texts. The team of a read is the one that it judges to have come
-    // first; so is that of a look by an operation that changes nothing, and of an operation whose response alone tells.
-    function eventOf({ action, process, judged = null, value = null, team = judged, ...rest }) {
+    // first; so is that of a look by an operation that changes nothing, and of an operation whose response alone tells. An
+    // operation has the states before and after it, and a crash what it forgets.
+    function eventOf({ action, process, judged = null, value = null, team = judged, forgets, ...rest }) {
         const kind = kindOf({ action, judged, value });
-        return { kind, ...rest, ...(team !== null && { team: teamName(team) }), ...(value !== null && { value: String(value) }) };
+        const forgot = forgets && ('decision' in forgets ? { decision: String(forgets.decision) } : withText(forgets));
+        return { kind, ...withText({ ...rest, value }), ...(team !== null && { team: teamName(team) }), ...(forgot && { forgot }) };
     }
 
     // The acts without those of a process that has stopped before.
@@ -57,18 +62,6 @@ var Cnum = globalThis.Cnum || {};
         });
     }
 
-    // Each event of an operation with the state of the object before and after it. `next` gives the state
-    // after an operation in a state.
-    function withStates(events, plan, next) {
-        const states = plan.nodes.map(it => it.start);
-        return events.map(event => {
-            if (event.kind !== 'applies') return event;
-            const before = states[event.node];
-            states[event.node] = next(event.operation, before);
-            return { ...event, before, after: states[event.node] };
-        });
-    }
-
     // What holds after these events: of each node the state of its object, the last operation on it and its
     // registers; of each process its steps and its decision since it last crashed, its crashes, and whether it has
     // stopped.
@@ -93,15 +86,7 @@ var Cnum = globalThis.Cnum || {};
         return processes.map((_, process) => process).filter(it => goesOn(processes[it]));
     }
 
-    // The function that gives the state after an operation in a state, by the text of a table.
-    function movesOf(text) {
-        const table = new Cnum.TableText(text);
-        const states = table.items('states').map(it => it.text);
-        const rows = new Map(table.operations.map(it => [it.name.text, it.next.map(one => one.text)]));
-        return (operation, state) => rows.get(operation)[states.indexOf(state)];
-    }
-
     const stepOf = process => ({ process, does: STEP });
 
-    Cnum.run = { UNDECIDED, STEP, STOP, CRASH, stepOf, withoutStopped, scheduleOf, eventsOf, withStates, after, active, movesOf };
+    Cnum.run = { UNDECIDED, STEP, STOP, CRASH, stepOf, withoutStopped, scheduleOf, eventsOf, after, active };
 })();

@@ -10,15 +10,14 @@ var Cnum = globalThis.Cnum || {};
 
     // What an event changed, as a text in brackets: the state of an object, or what a process remembers. An event that
     // changed neither has none.
-    function changeOf({ process, before, after, forgot }, plan) {
-        if (forgot) return say('log_forgets', { memory: memoryText(forgot, plan.paths[process]) });
+    function changeOf({ before, after, forgot }) {
+        if (forgot) return say('log_forgets', { memory: memoryText(forgot) });
         return before ? say('object_change', { before, after }) : '';
     }
 
-    // What a process remembers, in words.
-    function memoryText({ place, value, last, decision }, path) {
-        if (decision !== run.UNDECIDED) return say('memory_decision', { value: decision });
-        const { node } = path[place];
+    // What a process remembers or forgets, in words.
+    function memoryText({ node, value, last, decision }) {
+        if (decision !== undefined) return say('memory_decision', { value: decision });
         return last ? say('memory_step', { node, value, step: Cnum.shortText(last) }) : say('memory_place', { node, value });
     }
 
@@ -226,18 +225,17 @@ var Cnum = globalThis.Cnum || {};
         // What each process remembers, and what it forgot when it last crashed.
         showMemories(events) {
             this.columns.forEach(({ memory, forgot }, process) => {
-                const path = this.plan.paths[process];
-                const now = lives.memoryAfter(events, process, this.protocol.inputs[process]);
+                const now = lives.memoryAfter(events, process, this.protocol.inputs[process], this.plan.paths[process]);
                 const before = lives.forgottenBy(events, process);
-                memory.textContent = say('remembers', { memory: memoryText(now, path) });
-                forgot.textContent = before ? say('forgot', { memory: memoryText(before, path) }) : '';
-                if (this.meetings) Cnum.showPlace(this.meetings, process, path[now.place].node, before && path[before.place].node);
+                memory.textContent = say('remembers', { memory: memoryText(now) });
+                forgot.textContent = before ? say('forgot', { memory: memoryText(before) }) : '';
+                if (this.meetings) Cnum.showPlace(this.meetings, process, now.node, before && before.node);
             });
         }
 
         showLog(events) {
             const lineOf = it => say(it.kind === 'applies' && it.team ? 'log_tells' : `log_${it.kind}`, it);
-            const changes = it => [changeOf(it, this.plan)].filter(Boolean).map(text => element('span', { class: 'change' }, text));
+            const changes = it => [changeOf(it)].filter(Boolean).map(text => element('span', { class: 'change' }, text));
             this.log.replaceChildren(...events.map(it => element('li', {}, lineOf(it), ...changes(it))));
             this.log.scrollTop = this.log.scrollHeight;
             const last = events[events.length - 1];

@@ -25,6 +25,7 @@ var Cnum = globalThis.Cnum || {};
         sees: it => [say('st_sees', it), say('st_node', it)],
         misses: it => [say('st_misses'), say('st_register', it)],
         doubts: it => [say('st_reads', it), say('st_doubts')],
+        wavers: () => [say('st_doubts'), ''],
         takes: it => [say('st_takes', it), say('st_register', it)],
         decides: it => [say('st_decides', it), ''],
         stops: () => [say('st_stops'), ''],
@@ -32,9 +33,7 @@ var Cnum = globalThis.Cnum || {};
     };
 
     // What a process forgets: its decision, or else its place.
-    function forgottenText({ decision }) {
-        return decision === Cnum.run.UNDECIDED ? say('st_forgets_place') : say('st_forgets', { value: decision });
-    }
+    const forgottenText = ({ decision }) => (decision === undefined ? say('st_forgets_place') : say('st_forgets', { value: decision }));
 
     // What a step did, as one short text.
     Cnum.shortText = event => TEXTS[event.kind](event)[0];
@@ -101,6 +100,7 @@ var Cnum = globalThis.Cnum || {};
         sees: openCircle,
         misses: openSquare,
         doubts: openCircle,
+        wavers: openCircle,
         takes: openSquare,
         decides: ({ x, y }) => svgElement('circle', { cx: x, cy: y, r: MARK + 2, class: 'end' }),
         stops: ({ x, y }) => svgElement('path', { d: `M${x - 7},${y - 7}l14,14m0,-14l-14,14`, class: 'cross' }),

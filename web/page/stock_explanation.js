@@ -18,16 +18,15 @@ var Cnum = globalThis.Cnum || {};
         return { at_least: least, ...(most === null ? {} : { at_most: most }) };
     }
 
-    // The names of a table, with the response and the next state of each operation in each state.
+    // The names of a table.
     function namesOf(text) {
         const table = new Cnum.TableText(text);
-        const ofOperation = it => ({ name: it.name.text, responses: textsOf(it.response), next: textsOf(it.next) });
-        return { states: textsOf(table.items('states')), operations: table.operations.map(ofOperation) };
+        return { states: textsOf(table.items('states')), operations: table.operations.map(it => it.name.text) };
     }
 
     // Two operations that last: the states of each case.
     function lasting([start, many, single, alone, behind, first], { states, operations }) {
-        const words = { start: states[start], many: operations[many].name, single: operations[single].name };
+        const words = { start: states[start], many: operations[many], single: operations[single] };
         const line = (key, set) => say(key, { ...words, states: states.filter((_, place) => set.includes(place)).join(', ') });
         const lines = [line('stock_first', first), line('stock_not_yet', alone), line('stock_behind', behind)];
         return [head('why_lasting', words), listOf(lines), paragraph('stock_lasting_end')];
@@ -43,23 +42,13 @@ var Cnum = globalThis.Cnum || {};
         return least.witness ? witness(least.witness, text) : lasting(least.lasting, names);
     }
 
-    // A run of a join: its operations, with the response of the one at the place, and the state that it leaves.
-    function runOf({ states, operations }, start, word, place) {
-        let left = states[start];
-        const steps = word.map((number, index) => {
-            const { name, responses, next } = operations[number];
-            const at = states.indexOf(left);
-            left = next[at];
-            return index === place ? `${name}/${responses[at]}` : name;
-        });
-        return { steps: steps.join(' '), left };
-    }
+    // A run of a join: its operations, with a star at that of the process that gets the same in both runs.
+    const runOf = (word, place, { operations }) => word.map((number, index) => operations[number] + (index === place ? '*' : '')).join(' ');
 
     // A join in words.
     function joinLine([start, first, place, second, other], names) {
-        const [a, b] = [runOf(names, start, first, place), runOf(names, start, second, other)];
-        const [one, two] = [first, second].map(([it]) => names.operations[it].name);
-        return say('stock_join', { start: names.states[start], first: a.steps, second: b.steps, left: a.left, one, two });
+        const [one, two] = [first, second].map(([it]) => names.operations[it]);
+        return say('stock_join', { start: names.states[start], first: runOf(first, place, names), second: runOf(second, other, names), one, two });
     }
 
     // Why no more can, by joins, a line each; or that nothing is shown of more.

@@ -4,7 +4,7 @@ var Cnum = globalThis.Cnum || {};
 (() => {
     'use strict';
 
-    const { element, say } = Cnum;
+    const { button, element, say } = Cnum;
     const { paragraph, head, tasks, witnessTable, asPrinted } = Cnum.reasonParts;
 
     const answerOf = it => say('answer_of', it);
@@ -44,8 +44,8 @@ var Cnum = globalThis.Cnum || {};
     }
 
     // Why no protocol does it for so many: of each way to choose a start state, operations and teams two runs. Those that are
-    // told can be chosen.
-    function refutation({ processes: count, count: ways, positions, choices }, picture) {
+    // told can be chosen. `leading` is what leads to the run that fails, if there is one.
+    function refutation({ processes: count, count: ways, positions, choices }, picture, leading) {
         const shown = element('div');
         const show = choice => shown.replaceChildren(...way(choice, picture));
         const numbers = choices.map((_, index) => element('option', { value: index }, say('way_of', { number: index + 1, ways })));
@@ -55,6 +55,7 @@ var Cnum = globalThis.Cnum || {};
         if (choices.length) show(choices[0]);
         return [
             head(ways === 1 ? 'why_not_unread_one' : 'why_not_unread', { count, ways }),
+            ...leading,
             ...(choices.length > 1 ? [selection] : []),
             shown,
             paragraph('runs_positions', { positions }),
@@ -62,14 +63,14 @@ var Cnum = globalThis.Cnum || {};
     }
 
     // Why no more can: by two runs, since not even more can that read, or since there is no upper bound.
-    function reasonsForMost(told, picture) {
+    function reasonsForMost(told, picture, leading) {
         const number = told.without_read;
         if (number === 'infinite') return { end: say('why_each') };
         const count = Cnum.mostOf(number) + 1;
         if (count === Infinity) return { end: say('no_bound_found') };
         const end = say('why_proved_unread', { count });
-        if (told.refuted) return { parts: refutation(told.refuted, picture), end: [say('why_same_ways'), say('why_left_out'), end].join(' ') };
-        return { parts: [head('why_not_read', { count }), ...(told.rule ? [paragraph(`rule_${told.rule}`)] : [])], end };
+        if (told.refuted) return { parts: refutation(told.refuted, picture, leading), end: [say('why_same_ways'), say('why_left_out'), end].join(' ') };
+        return { parts: [head('why_not_read', { count }), ...leading, ...(told.rule ? [paragraph(`rule_${told.rule}`)] : [])], end };
     }
 
     // The sentences at the end: what is proved of more processes, and that the number is not decided, if it is not.
@@ -78,13 +79,15 @@ var Cnum = globalThis.Cnum || {};
     }
 
     // Shows such an explanation in this place, or says that there is none. `picture` gives the picture of the states with a
-    // choice in it, and `printed` the text of the program.
-    Cnum.showUnreadExplanation = function (place, told, { picture, printed }) {
+    // choice in it, and `printed` the text of the program. `tryAnyway` shows the run that fails, by a button with the text `anyway`,
+    // if there is one.
+    Cnum.showUnreadExplanation = function (place, told, { picture, printed, tryAnyway, anyway }) {
         if (!told) {
             place.replaceChildren(element('p', { class: 'quiet' }, say('no_reasons')));
             return;
         }
-        const { parts = [], end } = reasonsForMost(told, picture);
+        const leading = anyway ? [element('p', {}, button(anyway, tryAnyway))] : [];
+        const { parts = [], end } = reasonsForMost(told, picture, leading);
         place.replaceChildren(
             ...told.merged.filter(it => it.state !== it.class).map(it => paragraph('merged_states', it)),
             ...(told.telling ? [paragraph(`telling_${told.telling}`)] : []),
