@@ -74,14 +74,11 @@ fn shared_search<T: Threads + Sync>(
     entry_makes_a_table();
     searches_serve_other_responses();
     let _target = target;
-    let Some(first) = changes.first() else {
-        return Ok(None);
-    };
-    if kind != NumberKind::Consensus {
+    laws::tables_are_valid(table);
+    if kind != NumberKind::Consensus || changes.is_empty() {
         return Ok(None);
     }
-    let changed = first.table(alloc, table)?;
-    laws::tables_are_valid(table);
+    let changed = changes[0].table(alloc, table)?;
     search_nexts(rt, alloc, &changed)
 }
 
@@ -98,12 +95,16 @@ fn number_by<T: Threads + Sync>(
     requires served { Serves (with_change table.now change) searched.now }
     ensures { IfOk result (HasNumberOf kind (with_change table.now change)) }
 {
-    if kind != NumberKind::Consensus {
-        return number_with(rt, alloc, table, kind, change);
+    match kind {
+        NumberKind::Consensus => {
+            let changed = change.table(alloc, table)?;
+            let number = consensus_number_by(rt, alloc, &changed, searched)?;
+            Ok(exactly(number))
+        }
+        NumberKind::Recoverable | NumberKind::WithoutReads => {
+            number_with(rt, alloc, table, kind, change)
+        }
     }
-    let changed = change.table(alloc, table)?;
-    let number = consensus_number_by(rt, alloc, &changed, searched)?;
-    Ok(exactly(number))
 }
 
 /// These changes, each with its number, by a search that serves for their consensus numbers.
