@@ -60,8 +60,8 @@ row_of t o table known = all_at (IsRow (length t.states) (length t.responses)) t
 
 pub idle_by_test : (t : TypeTable) (o : ℕ) → IsTypeTable t → o < length t.operations → changes_nothing t o ≡ true → IsIdle t o
 idle_by_test t o table known test q within =
-    in_place 0 (slice_index_or t.operations o no_row).next test q (rw (row_of t o table known).next_len within)
+    let here = in_place 0 (slice_index_or t.operations o no_row).next test q (rw (row_of t o table known).next_len within) in omega (arith, here)
 
 pub test_of_idle : (t : TypeTable) (o : ℕ) → IsTypeTable t → o < length t.operations → IsIdle t o → changes_nothing t o ≡ true
 test_of_idle t o table known idle =
-    from_places 0 (slice_index_or t.operations o no_row).next (λ k within. idle k (rw (row_of t o table known).next_len at within))
+    from_places 0 (slice_index_or t.operations o no_row).next (λ k within. let here = idle k (rw (row_of t o table known).next_len at within) in omega (arith, here))

@@ -2,6 +2,7 @@
 ghost use Rattle.std.specs.Prelude.{◌<◌, ◌↔◌, IfOk, IsTrue, length};
 ghost use Rattle.cn_flaws.specs.Notes.{AnswersDiffer, AreIdle, AreNotes, AreUnreached, notes_view};
 
+use cn_table::laws::tables_are_valid;
 use cn_table::{Operation, State, Table};
 use std::alloc::{AllocError, Global};
 
@@ -43,13 +44,15 @@ fn answers_differ(table: &Table, operation: Operation) -> bool
 fn idle_operations(alloc: Global, table: &Table) -> Result<Vec<IdleOperation>, AllocError>
     ensures { IfOk result (λ list. AreIdle table.now list.items) }
 {
+    tables_are_valid(table);
     let mut idle = Vec::new(alloc);
     for number in 0..table.operations() {
         let operation = Operation(number);
-        if table.changes_nothing(operation) {
-            let answers = answers_differ(table, operation);
-            idle.push(IdleOperation { operation, answers })?;
+        if !table.changes_nothing(operation) {
+            continue;
         }
+        let answers = answers_differ(table, operation);
+        idle.push(IdleOperation { operation, answers })?;
     }
     Ok(idle)
 }
@@ -60,9 +63,10 @@ fn unreached_states(alloc: Global, table: &Table) -> Result<Vec<State>, AllocErr
     let reached = table.reached_states();
     let mut unreached = Vec::new(alloc);
     for number in 0..table.states() {
-        if !reached[number as usize] {
-            unreached.push(State(number))?;
+        if reached[number as usize] {
+            continue;
         }
+        unreached.push(State(number))?;
     }
     Ok(unreached)
 }
