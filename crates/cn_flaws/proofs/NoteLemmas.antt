@@ -1,12 +1,12 @@
 -- Numbers with a property, in ascending order, and operations that change no state.
-use Rattle.std.proofs.Common.{◌≡◌, ℕ, zero, suc, ◌+◌, ◌<◌, ◌≤◌, ◌⊎◌, inl, inr, List, [], ◌∷◌, ◌++◌, length, get_or, Bool, true, false, refl, sym, subst, arith, AllPairs, Contains}
-use Rattle.std.specs.Prelude.{◌==◌, ◌&&◌, slice_index, slice_index_or}
+use Rattle.std.proofs.Common.{◌≡◌, ℕ, zero, suc, ◌+◌, ◌<◌, inl, inr, List, [], ◌∷◌, ◌++◌, length, get_or, true, refl, sym, subst, arith, Contains}
+use Rattle.std.specs.Prelude.{◌==◌, slice_index, slice_index_or}
 use Rattle.std.proofs.Math.Nat.{eq-or-lt_of_le}
 use Rattle.std.proofs.lemmas.Bool.{and_from, and_parts, eq-eqb, eqb-true}
 use Rattle.std.proofs.lemmas.List.Elements.{Contains-append_left, Contains-get_or, Contains-push, Contains-push_cases}
 use Rattle.std.proofs.lemmas.List.Quantifiers.{all_pairs_push}
 use Rattle.cn_table.specs.Reach.{changes_nothing, is_in_place}
-use Rattle.cn_table.specs.TypeTable.{TypeTable, IsTypeTable, IsRow, transition, no_row}
+use Rattle.cn_table.specs.TypeTable.{TypeTable, IsTypeTable, IsRow, no_row}
 use Rattle.cn_table.proofs.Rows.{all_at}
 use Rattle.cn_flaws.specs.Notes.{AreThose, IsIdle}
 

@@ -1,4 +1,4 @@
-use Rattle.std.proofs.Common.{◌≡◌, ◌↔◌, ◌∙◌, ◌+◌, ◌<◌, ◌∷◌, [], IsTrue, ap, arith, length, map, subst, sym}
+use Rattle.std.proofs.Common.{◌↔◌, ◌∙◌, ◌+◌, ◌<◌, ◌∷◌, [], IsTrue, ap, arith, length, map, subst, sym}
 use Rattle.std.proofs.lemmas.List.Elements.{All-push}
 use Rattle.std.proofs.lemmas.List.{map-append}
 use Rattle.cn_flaws.specs.Notes.{AnswersDiffer, IsIdle}
@@ -27,9 +27,9 @@ loop-number-preserved c =
     record {
       operations = subst (AreThoseBelow (IsIdle t) (n + 1))
           (sym (ap (map (λ (i : IdleOperation). i.operation.0)) c.in_ok-push.ensures.items
-              ∙ map-append (λ (i : IdleOperation). i.operation.0) old (record { operation = record { 0 = n }; answers = answers } ∷ [])))
+          ∙ map-append (λ (i : IdleOperation). i.operation.0) old (record { operation = record { 0 = n }; answers = answers } ∷ [])))
           (those_added (IsIdle t) n (map (λ (i : IdleOperation). i.operation.0) old)
-              (idle_by_test t n c.tables_are_valid.ensures.table known (let on = c.if-not-changes_nothing.false in cc)) c.loop-number.invariant.operations);
+          (idle_by_test t n c.tables_are_valid.ensures.table known (let on = c.if-not-changes_nothing.false in cc)) c.loop-number.invariant.operations);
       answers = rw c.in_ok-push.ensures.items (All-push (λ (i : IdleOperation). IsTrue i.answers ↔ AnswersDiffer t i.operation.0) old
           (record { operation = record { 0 = n }; answers = answers }) c.loop-number.invariant.answers c.answers_differ-answers.ensures);
     }

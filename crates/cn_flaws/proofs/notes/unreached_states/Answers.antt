@@ -1,4 +1,4 @@
-use Rattle.std.proofs.Common.{◌≡◌, ◌∙◌, ◌+◌, ◌<◌, ◌∷◌, [], ap, arith, length, map, refl, subst, sym}
+use Rattle.std.proofs.Common.{◌∙◌, ◌+◌, ◌<◌, ◌∷◌, [], ap, arith, length, map, subst, sym}
 use Rattle.std.proofs.lemmas.Bool.{both_ways}
 use Rattle.std.proofs.lemmas.List.{map-append}
 use Rattle.cn_table.specs.Reach.{Leads}
@@ -21,7 +21,7 @@ loop-number-preserved c =
     subst (AreThoseBelow (λ q. ¬ Leads c.args.table.now 0 q) (n + 1))
     (sym (ap (map (λ (q : State). q.0)) c.in_ok-push.ensures.items ∙ map-append (λ (q : State). q.0) old (record { 0 = n } ∷ [])))
     (those_added (λ q. ¬ Leads c.args.table.now 0 q) n (map (λ (q : State). q.0) old)
-        (λ way. both_ways _ c.if-reached-number.false ((c.reached_states-reached.ensures n known).1 way)) c.loop-number.invariant)
+    (λ way. both_ways _ c.if-reached-number.false ((c.reached_states-reached.ensures n known).1 way)) c.loop-number.invariant)
 
 pub returns : goal.returns
 returns c =
