@@ -1,4 +1,4 @@
--- Numbers with a property, in ascending order, and operations that change no state.
+-- Numbers with a property, in ascending order, and operations that change nothing.
 use Rattle.std.proofs.Common.{◌≡◌, ℕ, zero, suc, ◌+◌, ◌<◌, inl, inr, List, [], ◌∷◌, ◌++◌, length, get_or, true, refl, sym, subst, arith, Contains}
 use Rattle.std.specs.Prelude.{◌==◌, slice_index, slice_index_or}
 use Rattle.std.proofs.Math.Nat.{eq-or-lt_of_le}
@@ -41,7 +41,7 @@ those_added Has n list has f = record {
   ascending = all_pairs_push (λ x y. x < y) list n f.ascending (λ k d within. ((f.each (get_or list k d)).0 (Contains-get_or list k d within)).0);
 }
 
--- ---- operations that change no state
+-- ---- operations that change nothing
 
 in_place : (i : ℕ) (qs : List ℕ) → is_in_place i qs ≡ true → (k : ℕ) → k < length qs → slice_index qs k ≡ i + k
 in_place i [] h k within = absurd (omega (arith, within))

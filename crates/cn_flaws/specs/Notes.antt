@@ -20,7 +20,7 @@ abbrev pub AnswersDiffer : TypeTable → ℕ → Type 0
 AnswersDiffer t o = (p : ℕ) × (q : ℕ) × (p < length t.states) × (q < length t.states)
     × ((transition t o p).0 ≢ (transition t o q).0)
 
--- all operations that change no state, in their order, and of each whether its responses differ
+-- all operations that change nothing, in their order, and of each whether its responses differ
 pub record AreIdle (t : TypeTable) (list : List IdleOperation) : Type 0 where
   pub operations : AreThose (λ o. (o < length t.operations) × IsIdle t o)
       (map (λ i. i.operation.0) list)

@@ -19,7 +19,7 @@ pub struct IdleOperation {
 /// What a table has that its reader may not expect: a table without flaws can have it.
 #[derive(Drop)]
 pub struct TableNotes {
-    /// The operations that change no state, in their order.
+    /// The operations that change nothing, in their order.
     pub idle: Vec<IdleOperation>,
     /// The states to which no operations lead from the first state, in their order.
     pub unreached: Vec<State>,
@@ -71,7 +71,7 @@ fn unreached_states(alloc: Global, table: &Table) -> Result<Vec<State>, AllocErr
     Ok(unreached)
 }
 
-/// What a table has that its reader may not expect: the operations that change no state, and the
+/// What a table has that its reader may not expect: the operations that change nothing, and the
 /// states to which no operations lead from the first one.
 ///
 /// # Errors

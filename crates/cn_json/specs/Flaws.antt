@@ -39,7 +39,7 @@ flaw_data f = placed_data f.position f
 unfoldable pub flaws_data : List Flaw → Data
 flaws_data flaws = object (member (codes "flaws") (list_data flaw_data flaws) no_members)
 
--- an operation that changes no state, and whether its responses differ
+-- an operation that changes nothing, and whether its responses differ
 abbrev pub idle_data : TypeTable → IdleOperation → Data
 idle_data t i = object (member (codes "answers") (boolean i.answers)
     (member (codes "operation") (operation_data t i.operation) no_members))

@@ -150,7 +150,7 @@ fn write_notes(out: &mut JsonText, table: &Table, notes: &TableNotes) -> Result<
 }
 
 /// A table without flaws, with its notes, as one compact JSON object:
-/// `{"flaws":[],"idle":[..],"unreached":[..]}`. Each operation that changes no state, in order, is
+/// `{"flaws":[],"idle":[..],"unreached":[..]}`. Each operation that changes nothing, in order, is
 /// an object in `idle` with its name at `operation`, and with `answers`, whether its responses
 /// differ in some two states; `unreached` has the names of the states to which no operations lead
 /// from the first one, in order.

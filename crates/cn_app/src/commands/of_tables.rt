@@ -280,7 +280,7 @@ pub fn lint<R: Read, W: Write>(
 
     ensures read { HasRead Source.Table R.remaining table.old table.new }
     // promise: grid-by-lint (HasLintReport: EndsText, Tells, IsLinted: IsTableText, HasFlawText,
-    //     HasNoteText: AreNotes, flaw_json, note_json)
+    //     flaw_json, HasNoteText: AreNotes, note_json)
     ensures linted { Reports W.contents (HasLintReport table.new form)
         output.old output.new result }
 {

@@ -3,7 +3,7 @@ use Rattle.cn_flaws.specs.Notes.{AnswersDiffer, IsIdle}
 use Rattle.cn_flaws.proofs.NoteLemmas.{AreThoseBelow}
 use Rattle.cn_flaws.proofs.notes.idle_operations.Given as goal
 
--- the operations so far that change no state
+-- the operations so far that change nothing
 abbrev pub invariant-loop-number : goal.invariant-loop-number
 invariant-loop-number l = record {
   operations : AreThoseBelow (IsIdle l.table) l.number (map (λ i. i.operation.0) l.idle.items);
