@@ -1759,7 +1759,7 @@ PLANTED = """
         const isForm = words.includes('--as') || ['find', 'draw'].includes(words[0]);
         const isLint = isForm && words[0] === 'lint' && text;
         const flaws = isLint && JSON.parse(text).flaws.map(it => ({ ...it, text: changed(it.text) }));
-        const told = isLint ? JSON.stringify({ flaws }) : isForm ? text : changed(text);
+        const told = isLint ? JSON.stringify({ ...JSON.parse(text), flaws }) : isForm ? text : changed(text);
         return { status, stdout: encoder.encode(told), stderr };
     }
 """

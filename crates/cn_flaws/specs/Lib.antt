@@ -1,3 +1,4 @@
 pub mod FlawPath
 pub mod FlawText
 pub mod Flaws
+pub mod Notes

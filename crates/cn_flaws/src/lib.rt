@@ -16,8 +16,10 @@ mod document_flaws;
 mod draft_flaws;
 mod flaw;
 mod flaw_text;
+mod notes;
 mod path;
 
 pub use all_flaws::flaws;
 pub use flaw::{Flaw, Position};
+pub use notes::{IdleOperation, TableNotes, notes_of};
 pub use path::PathPart;

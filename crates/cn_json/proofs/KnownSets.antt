@@ -16,7 +16,7 @@ use Rattle.cn_pairs.proofs.SetLists.{set_is}
 use Rattle.cn_json.specs.Pairs.{AreKnown}
 
 -- what holds of all images holds of the image of each
-of_images : {X Y : Type 0} (P : Y → Type 0) (f : X → Y) (xs : List X) → All P (map f xs) → All (λ x. P (f x)) xs
+pub of_images : {X Y : Type 0} (P : Y → Type 0) (f : X → Y) (xs : List X) → All P (map f xs) → All (λ x. P (f x)) xs
 of_images P f [] h = All-nil (λ x. P (f x))
 of_images P f (x ∷ xs) h =
     All-cons (λ x. P (f x)) x xs (h 0 (f x) (omega arith)) (of_images P f xs (λ k d l. h (suc k) d (omega (arith, l))))

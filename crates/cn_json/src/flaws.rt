@@ -1,15 +1,18 @@
-//! The flaws of a text as JSON.
-ghost use Rattle.std.specs.Prelude.{codes, ◌≡◌, IfOk, None, Some, map, string_bytes};
+//! The flaws of a text, and the notes of a table, as JSON.
+ghost use Rattle.std.specs.Prelude.{codes, ◌≡◌, ◌<◌, IfOk, None, Some, length, map, string_bytes};
 ghost use Rattle.serde_json.specs.Written.{compact_text};
 ghost use Rattle.cn_flaws.specs.FlawPath.{part_view};
 ghost use Rattle.cn_flaws.specs.Flaws.{flaw_view};
-ghost use Rattle.cn_json.specs.Flaws.{flaw_data, flaw_members, flaws_data, part_data, placed_data};
+ghost use Rattle.cn_flaws.specs.Notes.{AreNotes, notes_view};
+ghost use Rattle.cn_json.specs.Flaws.{flaw_data, flaw_members, flaws_data, idle_data, notes_data, part_data, placed_data};
 ghost use Rattle.cn_json.specs.Tokens.{Appends, list_rest, member_tokens, members_rest, value_tokens};
 ghost use Rattle.cn_json.specs.Values.{list_data};
 
 use crate::json_text::JsonText;
-use crate::json_text::Primitive::{Byte, Number, Text};
-use cn_flaws::{Flaw, PathPart, Position};
+use crate::json_text::Primitive::{Boolean, Byte, Number, Text};
+use crate::value::JsonValue;
+use cn_flaws::{Flaw, IdleOperation, PathPart, Position, TableNotes};
+use cn_table::Table;
 use std::alloc::{AllocError, Global};
 
 fn write_part(out: &mut JsonText, part: &PathPart) -> Result<(), AllocError>
@@ -117,5 +120,52 @@ pub fn flaws_json(alloc: Global, flaws: &[Flaw]) -> Result<String, AllocError>
 {
     let mut out = JsonText::new(alloc);
     write_flaws(&mut out, flaws)?;
+    Ok(out.finish())
+}
+
+impl JsonValue for IdleOperation {
+    ghost IsKnown = { λ t i. i.operation.0 < length t.operations };
+
+    ghost json = { idle_data };
+
+    fn write(&self, out: &mut JsonText, table: &Table) -> Result<(), AllocError> {
+        out.object(&[
+            ("answers", Boolean(self.answers)),
+            ("operation", Text(table.operation_name(self.operation))),
+        ])
+    }
+}
+
+fn write_notes(out: &mut JsonText, table: &Table, notes: &TableNotes) -> Result<(), AllocError>
+    requires { AreNotes table.now (notes_view notes.now) }
+    ensures { Appends result out.old out.new
+        (value_tokens (notes_data table.now (notes_view notes.now))) }
+{
+    out.begin_object()?;
+    out.begin_array_at("flaws")?;
+    out.end_array()?;
+    out.array_at("idle", table, &notes.idle)?;
+    out.array_at("unreached", table, &notes.unreached)?;
+    out.end_object()
+}
+
+/// A table without flaws, with its notes, as one compact JSON object:
+/// `{"flaws":[],"idle":[..],"unreached":[..]}`. Each operation that changes nothing, in order, is
+/// an object in `idle` with its name at `operation`, and with `answers`, whether its responses
+/// differ in some two states; `unreached` has the names of the states to which no operations lead
+/// from the first one, in order.
+///
+/// # Errors
+///
+/// `AllocError` if memory runs out.
+pub fn notes_json(alloc: Global, table: &Table, notes: &TableNotes) -> Result<String, AllocError>
+    requires { AreNotes table.now (notes_view notes.now) }
+    // promise: answers-as-json (notes_data: idle_data)
+    // promise: grid-by-lint
+    ensures { IfOk result (λ text. string_bytes text
+        ≡ compact_text (notes_data table.now (notes_view notes.now))) }
+{
+    let mut out = JsonText::new(alloc);
+    write_notes(&mut out, table, notes)?;
     Ok(out.finish())
 }

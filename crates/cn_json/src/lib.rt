@@ -2,8 +2,9 @@
 //! bytes, with no line feed at its end.
 //!
 //! [`classification_json`] writes the numbers of a type, [`verdict_json`] the verdict on a
-//! certificate, [`flaws_json`] the flaws of the text of a table, [`course_json`] the decisions and
-//! the steps of processes, [`log_json`] and [`service_json`] what happened in a log,
+//! certificate, [`flaws_json`] the flaws of the text of a table, [`notes_json`] a table without
+//! flaws, [`course_json`] the decisions and the steps of processes, [`log_json`] and
+//! [`service_json`] what happened in a log,
 //! [`explanation_json`], [`recoverable_explanation_json`] and [`unread_explanation_json`] why a
 //! number is what it is, [`pairs_json`] the numbers of operations and of their pairs, [`changes_json`]
 //! those of a type with other entries, [`plan_json`] a plan, [`recording_plan_json`] that of a
@@ -46,7 +47,7 @@ pub use changes::changes_json;
 pub use cn_reasons::TypeNumber;
 pub use course::{course_json, decisions_json};
 pub use explanation::explanation_json;
-pub use flaws::flaws_json;
+pub use flaws::{flaws_json, notes_json};
 pub use lives::life_course_json;
 pub use log::{AnswerOf, log_json, service_json};
 pub use numbers::{Classification, classification_json};

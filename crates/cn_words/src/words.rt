@@ -146,7 +146,8 @@ Of a table that is refused, writes a line for each thing that is wrong with it, 
 first, each with its place; then the fault stands on standard error, as with every command. Names,
 counts and rows are looked at where no key is missing and each value is of its kind.
 
-With --as json writes one JSON object with the flaws, of which a table has none.
+With --as json writes one JSON object: the flaws, of which a table has none, and of a table the
+operations that change nothing and the states to which no operations lead from the first one.
 
 ",
     "  cnum lint < types/test_and_set.toml

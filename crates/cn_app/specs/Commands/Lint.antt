@@ -1,5 +1,5 @@
 -- What `lint` writes: a function of the bytes that it reads and of the form.
-use Rattle.std.specs.Prelude.{◌≡◌, ◌≤◌, ℕ, List, [], ◌++◌, codes, flat_map, length, IsOk, Err, Ok}
+use Rattle.std.specs.Prelude.{◌≡◌, ◌≤◌, ℕ, List, ◌++◌, codes, flat_map, length, IsOk, Err, Ok}
 use Rattle.std.specs.Prelude.{Result, MatchResult, string_bytes}
 use Rattle.serde_json.specs.Written.{compact_text}
 use Rattle.cn_table.specs.Faults.{reading}
@@ -7,7 +7,8 @@ use Rattle.cn_table.specs.TypeTable.{TypeTable}
 use Rattle.cn_table.specs.declared.fault.TableFault.{TableFault}
 use Rattle.cn_text.specs.Grid.{IsGrid}
 use Rattle.cn_flaws.specs.Flaws.{Flaw, flaws_at}
-use Rattle.cn_json.specs.Flaws.{flaws_data}
+use Rattle.cn_flaws.specs.Notes.{AreNotes, Notes}
+use Rattle.cn_json.specs.Flaws.{flaws_data, notes_data}
 use Rattle.cn_form.specs.declared.answer_form.AnswerForm.{AnswerForm}
 use Rattle.cn_form.specs.declared.answer_form.AnswerForm.TheVariants as form
 use Rattle.cn_io.specs.FaultText.{plain_of}
@@ -31,16 +32,24 @@ flaw_lines flaws = flat_map (λ f. f.text ++ codes "\n") flaws
 abbrev pub flaw_json : List Flaw → List ℕ
 flaw_json flaws = compact_text (flaws_data flaws) ++ codes "\n"
 
+-- that a table has no flaws, and its notes, as one JSON value
+abbrev pub note_json : TypeTable → Notes → List ℕ
+note_json t notes = compact_text (notes_data t notes) ++ codes "\n"
+
 -- the text of the flaws of bytes that spell no table; bytes that are no TOML have one flaw, at some
 -- place in them
 abbrev pub HasFlawText : AnswerForm → List ℕ → List ℕ → Type 0
 HasFlawText told bytes text = (place : ℕ) × (place ≤ length bytes)
     × (text ≡ if_json told (flaw_json (flaws_at place bytes)) (flaw_lines (flaws_at place bytes)))
 
--- the grid of a table, or as JSON that it has no flaws
+-- the text that a table has no flaws, with its notes
+abbrev pub HasNoteText : TypeTable → List ℕ → Type 0
+HasNoteText t text = (notes : Notes) × AreNotes t notes × (text ≡ note_json t notes)
+
+-- the grid of a table, or as JSON that it has no flaws, with its notes
 abbrev pub IsTableText : AnswerForm → TypeTable → List ℕ → Type 0
 IsTableText form.Text t text = IsGrid t text
-IsTableText form.Json t text = text ≡ flaw_json []
+IsTableText form.Json t text = HasNoteText t text
 
 -- the text of the table that the bytes spell, or else that of their flaws
 abbrev pub IsLinted : AnswerForm → List ℕ → List ℕ → Type 0

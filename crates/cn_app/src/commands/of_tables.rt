@@ -282,7 +282,7 @@ pub fn lint<R: Read, W: Write>(
 
     ensures read { HasRead Source.Table R.remaining table.old table.new }
     // promise: grid-by-lint (HasLintReport: EndsText, Tells, IsLinted: IsTableText, HasFlawText,
-    //     flaw_json)
+    //     flaw_json, HasNoteText: AreNotes, note_json)
     ensures linted { Reports W.contents (HasLintReport table.new form)
         output.old output.new result }
 {

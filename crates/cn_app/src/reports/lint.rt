@@ -1,14 +1,14 @@
 //! The report of `lint`.
 ghost use Rattle.std.specs.Prelude.{◌≡◌, ◌≤◌, ◌<◌, ◌^◌, IfOk, length, map, string_bytes};
 ghost use Rattle.cn_flaws.specs.Flaws.{flaw_view};
-ghost use Rattle.cn_app.specs.Commands.Lint.{HasFlawText, IsLintReport, IsTableText, flaw_json, flaw_lines};
+ghost use Rattle.cn_app.specs.Commands.Lint.{HasFlawText, HasNoteText, IsLintReport, IsTableText, flaw_json, flaw_lines};
 ghost use Rattle.cn_app.specs.Forms.{if_json};
 ghost use Rattle.cn_io.specs.declared.limits.TheConstants.{MOST_TABLE_BYTES};
 
-use cn_flaws::{Flaw, flaws};
+use cn_flaws::{Flaw, flaws, notes_of};
 use cn_form::AnswerForm;
 use cn_io::{AppFault, Outcome, Report, with_line_feed};
-use cn_json::flaws_json;
+use cn_json::{flaws_json, notes_json};
 use cn_table::{Table, TableFault, read_table};
 use cn_text::grid_of;
 use std::alloc::{AllocError, Global};
@@ -44,19 +44,28 @@ fn text_of_flaws(alloc: Global, bytes: &[u8], form: AnswerForm) -> Result<String
     flaw_text(alloc, &flaws, form)
 }
 
+/// The JSON text of a table, which has no flaws, with its notes.
+fn note_text(alloc: Global, table: &Table) -> Result<String, AllocError>
+    ensures { IfOk result (λ text. HasNoteText table.now (string_bytes text)) }
+{
+    let notes = notes_of(alloc, table)?;
+    with_line_feed(notes_json(alloc, table, &notes)?)
+}
+
 /// The text of a table, which has no flaws.
 fn table_text(alloc: Global, table: &Table, form: AnswerForm) -> Result<String, AllocError>
     ensures { IfOk result (λ text. IsTableText form table.now (string_bytes text)) }
 {
     match form {
         AnswerForm::Text => grid_of(alloc, table),
-        AnswerForm::Json => with_line_feed(flaws_json(alloc, &[])?),
+        AnswerForm::Json => note_text(alloc, table),
     }
 }
 
 /// The output of `lint`: the grid of a table ([`grid_of`](cn_text::grid_of)), or a line for each
 /// flaw of bytes that spell none ([`flaws`](cn_flaws::flaws)). If the bytes are refused, the
-/// outcome has their fault. As JSON, the output has the flaws, none of a table ([`flaws_json`]).
+/// outcome has their fault. As JSON, the output has the flaws ([`flaws_json`]), or of a table that it
+/// has none, with its notes ([`notes_json`]).
 ///
 /// Without JSON, the output is empty for bytes that are not UTF-8.
 ///
