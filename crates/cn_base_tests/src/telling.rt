@@ -2,7 +2,8 @@
 use crate::fixtures::table_of;
 use crate::types;
 use cn_stocks::Threading;
-use cn_telling::{exact_split, greatest_told};
+use cn_table::{Operation, Response, State};
+use cn_telling::{exact_split, exact_split_by, greatest_told, last_search};
 use std::test::Fail;
 
 /// The greatest of 3 to 5 is the number of the type if that is more than 2, and 5 at most.
@@ -21,6 +22,27 @@ fn known_types_split(rt: HostRuntime) -> Result<(), Fail> {
         let table = table_of(rt.alloc(), text)?;
         let found = exact_split(&rt, rt.alloc(), &table, 5, Threading::One)?;
         assert!(rt; found == expected);
+    }
+    Ok(())
+}
+
+/// The search of a table serves for it with another response of its first entry.
+#[test]
+fn a_search_serves_other_responses(rt: HostRuntime) -> Result<(), Fail> {
+    for (text, expected) in [
+        (types::test_and_set(), None),
+        (types::sticky_bit(), Some(5)),
+        (types::three_shot(), Some(3)),
+    ] {
+        let alloc = rt.alloc();
+        let table = table_of(alloc, text)?;
+        let last = last_search(&rt, alloc, &table, 5, Threading::One)?;
+        let (response, next) = table.apply(Operation(0), State(0));
+        let other = Response(table.responses() - 1 - response.0);
+        let changed = table.with_entry(alloc, Operation(0), State(0), other, next)?;
+        assert!(rt; exact_split_by(alloc, &table, 5, &last)? == expected);
+        let found = exact_split(&rt, alloc, &changed, 5, Threading::One)?;
+        assert!(rt; exact_split_by(alloc, &changed, 5, &last)? == found);
     }
     Ok(())
 }

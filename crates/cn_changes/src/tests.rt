@@ -1,6 +1,6 @@
 //! Changes of worked types.
 
-use crate::{NumberKind, changes_of, pair_numbers, raises_of, rests_on};
+use crate::{NumberKind, Untold, changes_of, pair_numbers, raises_of, rests_on};
 use cn_table::{Operation, State, Table, read_table};
 use cn_unread_number::NumberBounds;
 use std::alloc::Global;
@@ -62,7 +62,7 @@ fn resting<T: Threads + Sync>(
     table: &Table,
     operation: Operation,
 ) -> Result<u8, Fail> {
-    let changes = changes_of(rt, alloc, table, NumberKind::Consensus)?;
+    let changes = changes_of(rt, alloc, table, NumberKind::Consensus, &Untold)?;
     let nexts = changes.nexts.as_slice();
     let mut count = 0;
     for state in 0..table.states() {
@@ -88,7 +88,7 @@ fn entries_on_which_a_number_rests(rt: HostRuntime) -> Result<(), Fail> {
 fn changes_that_raise_a_number(rt: HostRuntime) -> Result<(), Fail> {
     let alloc = rt.alloc();
     let table = read_table(alloc, saturating_count().as_bytes())?;
-    let changes = changes_of(&rt, alloc, &table, NumberKind::Consensus)?;
+    let changes = changes_of(&rt, alloc, &table, NumberKind::Consensus, &Untold)?;
     assert_eq!(rt; changes.number, NumberBounds::Exactly(2));
     assert_eq!(rt; changes.nexts.len(), 32);
     let raises = raises_of(alloc, changes.number, changes.nexts.as_slice())?;
@@ -113,10 +113,10 @@ fn changes_that_raise_a_number(rt: HostRuntime) -> Result<(), Fail> {
 fn two_changes_that_raise_nothing(rt: HostRuntime) -> Result<(), Fail> {
     let alloc = rt.alloc();
     let table = read_table(alloc, counter_modulo_4().as_bytes())?;
-    let changes = changes_of(&rt, alloc, &table, NumberKind::Consensus)?;
+    let changes = changes_of(&rt, alloc, &table, NumberKind::Consensus, &Untold)?;
     assert_eq!(rt; changes.number, NumberBounds::Exactly(2));
     assert!(rt; raises_of(alloc, changes.number, changes.nexts.as_slice())?.is_empty());
-    let pairs = pair_numbers(&rt, alloc, &table, NumberKind::Consensus, changes.number)?;
+    let pairs = pair_numbers(&rt, alloc, &table, NumberKind::Consensus, changes.number, &Untold)?;
     assert!(rt; pairs.raising.is_empty());
     assert!(rt; !pairs.is_cut);
     Ok(())

@@ -111,12 +111,16 @@ impl Lives {
         ensures { result ≡ memory_of plan.now (world_of self.now) p }
     {
         recording_plans_are_sound(plan);
-        match self.locals[usize::from(p)] {
-            Local::Active { place, value, .. } => Memory::Value {
-                node: plan.plan().path(p)[place].node,
-                value,
+        if let Local::Decided(value) = self.local(p) {
+            return Memory::Decision { value };
+        }
+        match self.turn(plan, p) {
+            Some(turn) => Memory::Value {
+                node: turn.here.node,
+                value: turn.value,
             },
-            Local::Decided(value) => Memory::Decision { value },
+            // The process has not decided.
+            None => unreachable!(),
         }
     }
 
