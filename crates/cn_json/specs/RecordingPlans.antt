@@ -13,7 +13,7 @@ use Rattle.cn_json.specs.Plans.{path_data}
 use Rattle.cn_json.specs.Values.{list_data, number_data, text_data}
 
 -- a state, and the team that it shows to have come first
-unfoldable pub judged_state_data : RecordingPlan → ℕ → Data
+abbrev pub judged_state_data : RecordingPlan → ℕ → Data
 judged_state_data plan q =
     object (member (codes "state") (text_data (name_at plan.plan.table.states q))
     (member (codes "team") (text_data (team_name (judge plan q))) no_members))
@@ -26,7 +26,7 @@ life_path_data plan p =
     (member (codes "steps") (number_data (life_steps plan p)) no_members)))
 
 -- a role: its operation and its team
-unfoldable pub life_role_data : RecordingPlan → ℕ → Data
+abbrev pub life_role_data : RecordingPlan → ℕ → Data
 life_role_data plan role =
     object (member (codes "operation") (text_data (operation_name_of plan.plan role))
     (member (codes "team") (text_data (team_name (team_of (length plan.plan.choice.a) role)))

@@ -1,0 +1,17 @@
+use Rattle.std.proofs.Common.{◌≡◌, rules}
+use Rattle.cn_table.specs.Names.{name_at}
+use Rattle.cn_json.specs.RecordingPlans.{recording_plan_data}
+use Rattle.cn_json.proofs.Pieces.{piece}
+use Rattle.cn_json.proofs.recording_plan.write_plan.Goals as goal
+
+pub returns : goal.returns
+unfolding recording_plan_data
+returns c =
+    let plan = c.args.plan.now.plan in
+    let start : c.state_name.result.now ≡ name_at plan.table.states plan.choice.state = search rules in
+    let name : c.name.result.now ≡ plan.table.name = search rules in
+    rw (← start, ← name)
+    (piece c.in_ok-begin_object.ensures (piece c.in_ok-write_judges.ensures (piece (rw c.is_lone.ensures at c.in_ok-member.ensures)
+    (piece (rw c.nodes.ensures.number at c.in_ok-member-2.ensures) (piece c.in_ok-write_paths.ensures
+    (piece (rw c.processes.ensures.number at c.in_ok-member-3.ensures) (piece c.in_ok-write_roles.ensures
+    (rw c.most_life_steps-steps.ensures at c.last_members.ensures))))))))
