@@ -9,7 +9,7 @@ use Rattle.cn_choice.specs.TeamNames.{team_name}
 use Rattle.cn_choice.specs.declared.team.Team.{Team}
 use Rattle.cn_choice.specs.declared.team.Team.TheVariants.{A, B}
 use Rattle.cn_lives.specs.Plans.{RecordingPlan, judge}
-use Rattle.cn_proto.specs.Plan.{nodes_of, processes_of, protocol_of}
+use Rattle.cn_proto.specs.Plan.{Plan, nodes_of, processes_of, protocol_of}
 use Rattle.cn_proto.specs.PlanText.{operation_name_of, place_text}
 use Rattle.cn_proto.specs.Tournament.{team_of}
 use Rattle.cn_plan_text.specs.Places.{places_of}
@@ -31,14 +31,17 @@ most_life_steps plan = most_of plan (processes_of plan.plan)
 
 -- ---- lines
 
--- the type, the numbers of processes and nodes, the state in which each object starts, and the
--- greatest number of own steps
+-- the type, the numbers of processes and nodes, and the state in which each object starts
+abbrev pub type_text : Plan → List ℕ
+type_text plan =
+    codes "type " ++ plan.table.name ++ codes " processes " ++ decimal (processes_of plan)
+    ++ codes " nodes " ++ decimal (nodes_of plan) ++ codes " start "
+    ++ name_at plan.table.states plan.choice.state
+
+-- the same, and the greatest number of own steps
 abbrev pub head_line : RecordingPlan → List ℕ
 head_line plan =
-    concat (codes "type " ∷ plan.plan.table.name ∷ codes " processes "
-    ∷ decimal (processes_of plan.plan) ∷ codes " nodes " ∷ decimal (nodes_of plan.plan)
-    ∷ codes " start " ∷ name_at plan.plan.table.states plan.plan.choice.state ∷ codes " steps "
-    ∷ decimal (most_life_steps plan) ∷ codes "\n" ∷ [])
+    concat (type_text plan.plan ∷ codes " steps " ∷ decimal (most_life_steps plan) ∷ codes "\n" ∷ [])
 
 -- the text if both teams are one
 abbrev pub if_same : Team → Team → List ℕ → List ℕ

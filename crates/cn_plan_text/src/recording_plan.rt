@@ -4,12 +4,12 @@ ghost use Rattle.std.specs.List.{range_with_len};
 ghost use Rattle.cn_proto.specs.Plan.{processes_of};
 ghost use Rattle.cn_proto.specs.PlanText.{place_text};
 ghost use Rattle.cn_table.specs.Texts.{joined_texts};
-ghost use Rattle.cn_plan_text.specs.RecordingPlans.{head_line, judged_text, life_steps, most_life_steps, process_line, recording_plan_text, role_line, team_line};
+ghost use Rattle.cn_plan_text.specs.RecordingPlans.{head_line, judged_text, life_steps, most_life_steps, process_line, recording_plan_text, role_line, team_line, type_text};
 
 use cn_choice::Team;
 use cn_lives::RecordingPlan;
-use cn_proto::Place;
 use cn_proto::laws::plans_are_sound;
+use cn_proto::{Place, Plan};
 use cn_table::State;
 use std::alloc::{AllocError, Global};
 
@@ -72,11 +72,22 @@ pub fn recording_plan_lines(alloc: Global, plan: &RecordingPlan) -> Result<Strin
 fn push_head(text: &mut String, plan: &RecordingPlan) -> Result<(), AllocError>
     ensures { OnOk result (string_bytes text.new ≡ string_bytes text.old ++ head_line plan.now) }
 {
-    let (table, steps) = (plan.plan().table(), most_life_steps(plan));
-    let (name, start) = (table.name(), table.state_name(plan.plan().start()));
-    let (processes, nodes) = (plan.plan().processes(), plan.plan().nodes());
-    write!(text, "type {name} processes {processes} nodes {nodes}")?;
-    write!(text, " start {start} steps {steps}\n")
+    let steps = most_life_steps(plan);
+    push_type(text, plan.plan())?;
+    write!(text, " steps {steps}\n")
+}
+
+fn push_type(text: &mut String, plan: &Plan) -> Result<(), AllocError>
+    ensures { OnOk result (string_bytes text.new ≡ string_bytes text.old ++ type_text plan.now) }
+{
+    let table = plan.table();
+    write!(text, "type {} processes {}", table.name(), plan.processes())?;
+    write!(
+        text,
+        " nodes {} start {}",
+        plan.nodes(),
+        table.state_name(plan.start()),
+    )
 }
 
 fn push_team(text: &mut String, plan: &RecordingPlan, side: Team) -> Result<(), AllocError>
