@@ -1,4 +1,4 @@
--- Changes of one entry to one next state, whose consensus numbers one search serves.
+-- Changes of one entry to one next state: one search serves for their consensus numbers.
 use Rattle.std.specs.Prelude.{◌≡◌, List, All, Option}
 use Rattle.cn_table.specs.TypeTable.{TypeTable}
 use Rattle.cn_search.specs.Nexts.{Serves}
