@@ -116,7 +116,14 @@ fn two_changes_that_raise_nothing(rt: HostRuntime) -> Result<(), Fail> {
     let changes = changes_of(&rt, alloc, &table, NumberKind::Consensus, &Untold)?;
     assert_eq!(rt; changes.number, NumberBounds::Exactly(2));
     assert!(rt; raises_of(alloc, changes.number, changes.nexts.as_slice())?.is_empty());
-    let pairs = pair_numbers(&rt, alloc, &table, NumberKind::Consensus, changes.number, &Untold)?;
+    let pairs = pair_numbers(
+        &rt,
+        alloc,
+        &table,
+        NumberKind::Consensus,
+        changes.number,
+        &Untold,
+    )?;
     assert!(rt; pairs.raising.is_empty());
     assert!(rt; !pairs.is_cut);
     Ok(())

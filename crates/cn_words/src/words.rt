@@ -36,7 +36,7 @@ Example:
     };
 }
 
-const VERSION: &str = "0.2.0, proved by rattle-kit-13b logic dac8208d650f15bf";
+const VERSION: &str = "0.2.0, proved by rattle-kit-13f logic dac8208d650f15bf";
 
 const ABOUT: &str = "Finds and checks the consensus number of a shared object type";
 

@@ -165,11 +165,7 @@ fn do_recoverable_plan<T: Threads + Sync + Disk + Eprint, I: Read + Copy + Drop,
 }
 
 // Does a command, and tells its faults; how the program ends.
-fn do_command<
-    T: Threads + Wait + Clock + Sync + Disk + Eprint,
-    I: Read + Copy + Drop,
-    O: Write,
->(
+fn do_command<T: Threads + Wait + Clock + Sync + Disk + Eprint, I: Read + Copy + Drop, O: Write>(
     rt: &T,
     alloc: Global,
     stdin: I,
@@ -246,11 +242,7 @@ fn do_command<
 
 // Does a command; how the program ends, and the writer as the command left it. It is silent where
 // whoever read its output went away.
-fn obey<
-    T: Threads + Wait + Clock + Sync + Disk + Eprint,
-    I: Read + Copy + Drop,
-    O: Write + Drop,
->(
+fn obey<T: Threads + Wait + Clock + Sync + Disk + Eprint, I: Read + Copy + Drop, O: Write + Drop>(
     rt: &T,
     alloc: Global,
     stdin: I,
