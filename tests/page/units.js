@@ -1068,7 +1068,7 @@ describe('answers', () => {
 
     it('have a sentence for each flaw and each fault of a certificate', () => {
         const namesIn = schema => (schema && typeof schema === 'object' ? Object.entries(schema).flatMap(namesUnder) : []);
-        const namesUnder = ([key, value]) => (['kind', 'name'].includes(key) ? value.enum || [value.const] : namesIn(value));
+        const namesUnder = ([key, value]) => (['kind', 'name'].includes(key) ? value.enum || [value.const].flatMap(it => it || []) : namesIn(value));
         const names = ['flaws', 'verdict'].flatMap(it => namesIn(JSON.parse(fs.readFileSync(path.join(WEB, `../docs/schema/${it}.json`), 'utf8'))));
         assert.ok(names.length > 20);
         assert.deepEqual(names.filter(it => !(`fault_${it}` in Cnum.texts)), []);

@@ -134,6 +134,10 @@ var Cnum = globalThis.Cnum || {};
             this.fit();
         }
 
+        focus() {
+            this.nextButton.focus();
+        }
+
         // Which of the two buttons can be pressed. A focus on the other one goes to it.
         allow(back, next) {
             const { backButton, nextButton } = this;
