@@ -84,6 +84,7 @@ Cnum.languages.de.texts = {
     why_head: 'Warum',
     compare_head: 'Was wäre, wenn',
     compare_hint: 'Welche Operationen und Einträge machen den Typ stark? Man lässt jede Operation einmal weg, ändert jeden Eintrag, oder behält die Tabelle und ändert sie.',
+    compare_examples: 'Zum Beispiel beruht die Zahl von <a href="#example=catalogue/queue_1&amp;screen=change">queue_1</a> auf vier Einträgen, und auf keinem von deq. Die von <a href="#example=catalogue/saturating_add_1_2&amp;screen=change">saturating_add_1_2</a> wird unendlich, wenn in Zustand 1 oder in Zustand 2 nicht um 2 erhöht wird; die von <a href="#example=catalogue/window_2&amp;screen=change">window_2</a>, wenn ein Schreiben des anderen Bits nach dem ersten nichts ändert. Kein anderer Eintrag senkt die von <a href="#example=catalogue/cas_3&amp;screen=change">cas_3</a>, und keine zwei erhöhen die von <a href="#example=catalogue/fetch_inc_mod4&amp;screen=change">fetch_inc_mod4</a>.',
     protocol_head: 'Das Protokoll, Schritt für Schritt',
     protocol_hint: 'Ein Prozess macht einen Schritt, oder er hält für immer an. Die anderen entscheiden sich für einen Wert, den einer von ihnen vorschlug.',
     protocol_reads: 'Dieses Protokoll liest die Zustände von Objekten: es ist für Objekte, die man lesen kann.',

@@ -85,6 +85,7 @@ Cnum.languages.en.texts = {
     why_head: 'Why',
     compare_head: 'What if',
     compare_hint: 'Which operations and entries make the type strong? Leave each operation out in turn, change each entry, or keep the table and change it.',
+    compare_examples: 'For example, the number of <a href="#example=catalogue/queue_1&amp;screen=change">queue_1</a> rests on four entries, and on none of deq. That of <a href="#example=catalogue/saturating_add_1_2&amp;screen=change">saturating_add_1_2</a> becomes infinite if adding 2 is refused in state 1, or in state 2; that of <a href="#example=catalogue/window_2&amp;screen=change">window_2</a>, if a write of the other bit behind the first one changes nothing. No other entry lowers that of <a href="#example=catalogue/cas_3&amp;screen=change">cas_3</a>, and no two raise that of <a href="#example=catalogue/fetch_inc_mod4&amp;screen=change">fetch_inc_mod4</a>.',
     protocol_head: 'The protocol, step by step',
     protocol_hint: 'Let a process take a step, or stop for good. Those that go on decide one value that one of them proposed.',
     protocol_reads: 'This protocol reads the states of objects: it is for objects that can be read.',
