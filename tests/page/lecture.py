@@ -115,6 +115,20 @@ def large_view(use):
     as_before(use)
 
 
+def one_screen(use):
+    """The large view in a window of each size, in any browser: nothing scrolls or is cut, and its letters can be read."""
+    for width, height in SIZES:
+        use.browser.resize(width, height)
+        for link in (RUN, "#example=types/sticky_bit&limit=8", "#example=types/test_and_set&try=yes"):
+            use.open(f"{link}&view=run")
+            size, over = use.value("[innerWidth, innerHeight]"), use.value(OVER)
+            yield f"{link} fits {width} to {height}", size == [width, height] and over == [0, 0], (size, over)
+        use.open(f"{RUN}&view=run")
+        letter = use.value(LETTER % ".diagram")
+        yield f"its letters, {width} to {height}", letter >= 22 * height / 1080 - 0.1, letter
+    use.browser.resize(1200, 900)
+
+
 PRESS_FAILING = "[...document.querySelectorAll('#failing button')].find(it => it.textContent === %r).click()"
 WRONG = "[...document.querySelectorAll('.failing-run')].map(it => it.classList.contains('wrong'))"
 STEPS = "[...document.querySelectorAll('.failing-run .diagram')].map(it => [...it.querySelectorAll('.mark-of-step text:first-of-type')].map(one => one.textContent))"
@@ -315,6 +329,6 @@ def runs_of_program(use):
 
 
 # The back button comes first, since a browser keeps the last 50 entries of its history alone.
-ALL = (back_button, screens, large_view, failing_run, failing_unread_run, sheets, printed_run, plain_pictures, runs_of_program)
+ALL = (back_button, screens, large_view, one_screen, failing_run, failing_unread_run, sheets, printed_run, plain_pictures, runs_of_program)
 # The parts that also run in a browser that is not driven by DevTools.
-WITHOUT_DEVTOOLS = (back_button, plain_pictures, runs_of_program)
+WITHOUT_DEVTOOLS = (back_button, one_screen, plain_pictures, runs_of_program)
