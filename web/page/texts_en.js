@@ -90,7 +90,7 @@ Cnum.languages.en.texts = {
     protocol_hint: 'Let a process take a step, or stop for good. Those that go on decide one value that one of them proposed.',
     protocol_reads: 'This protocol reads the states of objects: it is for objects that can be read.',
     protocol_without_reads: 'This protocol reads no state of an object: it is for objects that cannot be read, too.',
-    plan_label: 'The plan: ',
+    plan_label: 'Plan: ',
     plan_shortest: 'the shortest',
     plan_certificate: 'that of the certificate',
     plan_without_reads: 'the shortest without reads',
