@@ -296,6 +296,8 @@ def flaws(use):
     use.value(f"(() => {{ const it = document.getElementById('table'); it.focus(); it.setSelectionRange({place}, {place + 5}); }})()")
     use.call("Input.insertText", text='"onee"')
     yield "a flaw while one types", use.until("document.querySelectorAll('#flaws li').length === 1"), use.text("flaws")
+    bottoms = use.value("['#flaws', '#table-part'].map(it => document.querySelector(it).getBoundingClientRect().bottom)")
+    yield "it is in view", bottoms[0] <= bottoms[1] <= use.value("innerHeight"), bottoms
     lint = called(["lint"], table[:place] + '"onee"' + table[place + 5 :])
     fault = f"An entry names what the table does not have. ({lint[1].decode().strip()})"
     told = use.text("flaws") + "\n", use.text("fault")
