@@ -89,6 +89,10 @@ class Browser:
     def open(self, address):
         self.call("Page.navigate", url=address)
 
+    def resize(self, width, height):
+        """Gives the page so many points, and not the window."""
+        self.call("Emulation.setDeviceMetricsOverride", width=width, height=height, deviceScaleFactor=1, mobile=False)
+
     def until(self, text, seconds=LONGEST):
         """Whether an expression holds within this time."""
         end = time.monotonic() + seconds

@@ -71,6 +71,13 @@ class Firefox:
             raise RuntimeError(f"{command}: {error.get('message')}")
         return answer
 
+    def resize(self, width, height):
+        """Gives the page so many points, and not the window."""
+        for _ in range(2):
+            rect = self.call("WebDriver:GetWindowRect")
+            inner = self.value("[innerWidth, innerHeight]")
+            self.call("WebDriver:SetWindowRect", width=rect["width"] + width - inner[0], height=rect["height"] + height - inner[1])
+
     def open(self, address):
         self.call("WebDriver:Navigate", url=address)
 

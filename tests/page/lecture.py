@@ -17,6 +17,7 @@ OVER = """[document.documentElement.scrollWidth - innerWidth, document.documentE
         .filter(it => it.checkVisibility()).map(it => it.getBoundingClientRect())
         .filter(it => it.right > innerWidth + 1 || it.bottom > innerHeight + 1 || it.top < -1 || it.left < -1).map(it => [it.right, it.bottom])]"""
 LETTER = "(it => 13 * it.getBoundingClientRect().height / it.getAttribute('height'))(document.querySelector('%s svg'))"
+FOCUSED = "document.activeElement.textContent"
 HEADING = "[...document.querySelectorAll('.last-step')].filter(it => it.checkVisibility()).map(it => it.textContent)"
 RUN = "#example=types/three_shot&plan=certificate&inputs=10,20,30&run=0,1,1,0,2,2,1"
 
@@ -50,6 +51,9 @@ def screens(use):
     yield "the bar says which is shown", use.texts("#screens [aria-current]") == ["Change"], use.texts("#screens [aria-current]")
     use.value("document.getElementById('skip-protocol').click()")
     yield "a link at the top leads to the protocol", use.value("document.activeElement.id") == "protocol-part" and "protocol-part" in use.value(SHOWN), ""
+    use.open("#example=types/three_shot&screen=change")
+    use.value("document.getElementById('skip-table').click()")
+    yield "a link leads past the table", use.value("document.activeElement.id") == "compare-part", use.value("document.activeElement.id")
     for mode in ("light", "dark"):
         sized(use, 1280, 720, mode)
         for screen in SCREENS:
@@ -59,7 +63,8 @@ def screens(use):
             across = use.value("document.documentElement.scrollWidth")
             yield f"{screen} is as wide as the window, {mode}", across <= 1280, across
             height = use.value("document.documentElement.scrollHeight")
-            yield f"{screen} is few windows high, {mode}", height < 2 * 720, height
+            most = 720 if screen == "change" else 2 * 720
+            yield f"{screen} is few windows high, {mode}", height <= most, height
     as_before(use)
     use.call("Emulation.setDeviceMetricsOverride", **PHONE)
     use.call("Emulation.setTouchEmulationEnabled", enabled=True)
@@ -109,10 +114,24 @@ def large_view(use):
     well = use.until("location.hash.endsWith('&view=run')", 5)
     yield "and the button to the large view", well and use.value(SHOWN) == ["protocol-part"], use.value("location.hash")
     use.key("Escape", 27)
-    yield "Escape leads back", use.until("!document.body.classList.contains('large')", 5), ""
+    yield "Escape leads back", use.until("!document.body.classList.contains('large')", 5) and use.value(FOCUSED) == "Large (L)", use.value(FOCUSED)
     use.open(f"{RUN}&view=run&lang=de")
     yield "it is German", use.value(HEADING) == ["three_shot – 7. Prozess 1: liest a2 an Knoten 1: Team A"] and use.value(OVER)[:2] == [0, 0], use.value(HEADING)
     as_before(use)
+
+
+def one_screen(use):
+    """The large view in a window of each size, in any browser: nothing scrolls or is cut, and its letters can be read."""
+    for width, height in SIZES:
+        use.browser.resize(width, height)
+        for link in (RUN, "#example=types/sticky_bit&limit=8", "#example=types/test_and_set&try=yes"):
+            use.open(f"{link}&view=run")
+            size, over = use.value("[innerWidth, innerHeight]"), use.value(OVER)
+            yield f"{link} fits {width} to {height}", size == [width, height] and over == [0, 0], (size, over)
+        use.open(f"{RUN}&view=run")
+        letter = use.value(LETTER % ".diagram")
+        yield f"its letters, {width} to {height}", letter >= 22 * height / 1080 - 0.1, letter
+    use.browser.resize(1200, 900)
 
 
 PRESS_FAILING = "[...document.querySelectorAll('#failing button')].find(it => it.textContent === %r).click()"
@@ -128,6 +147,7 @@ def failing_run(use):
     use.value("document.querySelector('#why p > button').click()")
     yield "and the link says so", use.until("location.hash === '#example=types/test_and_set&try=yes'", 5), use.value("location.hash")
     yield "it begins with no step", use.value(STEPS) == [[], []], use.value(STEPS)
+    yield "with the focus on the button that steps on", use.value(FOCUSED) == "Next", use.value(FOCUSED)
     steps = [["writes 10", "writes 20", "writes 20", "tas/zero", "reads one", "decides %s", "tas/one", "reads one"] for _ in range(2)]
     wanted = [[it % value if "%" in it else it for it in run] for run, value in zip(steps, ("10", "20"))]
     for count in range(1, 9):
@@ -144,6 +164,7 @@ def failing_run(use):
     yield "two values are decided", told[0] == "Two decisions: process 0 has decided 10, and process 1 decides 20.", told
     use.value(PRESS_FAILING % "Back to the protocol")
     yield "and back", use.until("location.hash === '#example=types/test_and_set&screen=run'", 5) and use.count(".process") == 2, use.value("location.hash")
+    yield "with the focus where it began", use.value(FOCUSED) == "Let 3 try it anyway", use.value(FOCUSED)
     for width, height in SIZES:
         for path in ("types/test_and_set", "types/three_shot", "catalogue/fetch_or_and_3bit"):
             sized(use, width, height, "dark")
@@ -152,6 +173,8 @@ def failing_run(use):
             over = use.value(OVER)
             yield f"{path} fits {width} to {height}", over[:2] == [0, 0] and over[2:] == [], over
             yield f"{path}: no text lies on another, {width}", use.value(TEXTS_MEET % ".failing-run .space-time") == [], use.value(TEXTS_MEET % ".failing-run .space-time")
+            letter = use.value(LETTER % ".failing-run .diagram")
+            yield f"{path}: its letters, {width}", letter >= 22 * height / 1080 - 0.1, letter
     as_before(use)
     use.open("#example=types/binary_register&try=yes")
     use.value("Cnum.page.failing.moveTo(99)")
@@ -204,6 +227,8 @@ def failing_unread_run(use):
             over = use.value(OVER)
             yield f"{path} fits {width} to {height}", over[:2] == [0, 0] and over[2:] == [] and use.count(".failing-run") == 2, over
             yield f"{path}: no text lies on another, {width}", use.value(TEXTS_MEET % ".failing-run .space-time") == [], use.value(TEXTS_MEET % ".failing-run .space-time")
+            letter = use.value(LETTER % ".failing-run .diagram")
+            yield f"{path}: its letters, {width}", letter >= 22 * height / 1080 - 0.1, letter
     as_before(use)
     use.open("#example=types/test_and_set&reads=no")
     well = use.until(f"document.querySelectorAll({json.dumps(TO_TRY)}).length === 1", 20)
@@ -315,6 +340,6 @@ def runs_of_program(use):
 
 
 # The back button comes first, since a browser keeps the last 50 entries of its history alone.
-ALL = (back_button, screens, large_view, failing_run, failing_unread_run, sheets, printed_run, plain_pictures, runs_of_program)
+ALL = (back_button, screens, large_view, one_screen, failing_run, failing_unread_run, sheets, printed_run, plain_pictures, runs_of_program)
 # The parts that also run in a browser that is not driven by DevTools.
-WITHOUT_DEVTOOLS = (back_button, plain_pictures, runs_of_program)
+WITHOUT_DEVTOOLS = (back_button, one_screen, plain_pictures, runs_of_program)

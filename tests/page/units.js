@@ -149,6 +149,16 @@ describe('a run', () => {
         }
         assert.deepEqual(lines.map(it => it.to), [marks[6].x, marks[4].x]);
     });
+
+    it('has proposals one above the other where it is short', () => {
+        const writes = process => ({ kind: 'writes', process, node: 0, team: 'A', value: '10' });
+        const kinds = [writes(0), writes(2), writes(1), { kind: 'doubts', process: 2, node: 0, state: 'one' }];
+        const placed = Cnum.placeRun(kinds, ['10', '10', '10'], text => 8 * text.length, { isShort: true });
+        const [first, second, third, last] = placed.marks;
+        assert.deepEqual([first, second, third, last].map(it => it.y), [32, 140, 86, 140]);
+        assert.ok(first.x === second.x && second.right === third.x - 45 && third.right < last.x);
+        assert.deepEqual([placed.height, Cnum.placeRun(kinds.slice(0, 3), ['10', '10', '10'], () => 1, { isShort: true }).height], [172, 154]);
+    });
 });
 
 describe('a plan tree', () => {
@@ -1068,7 +1078,7 @@ describe('answers', () => {
 
     it('have a sentence for each flaw and each fault of a certificate', () => {
         const namesIn = schema => (schema && typeof schema === 'object' ? Object.entries(schema).flatMap(namesUnder) : []);
-        const namesUnder = ([key, value]) => (['kind', 'name'].includes(key) ? value.enum || [value.const] : namesIn(value));
+        const namesUnder = ([key, value]) => (['kind', 'name'].includes(key) ? value.enum || [value.const].flatMap(it => it || []) : namesIn(value));
         const names = ['flaws', 'verdict'].flatMap(it => namesIn(JSON.parse(fs.readFileSync(path.join(WEB, `../docs/schema/${it}.json`), 'utf8'))));
         assert.ok(names.length > 20);
         assert.deepEqual(names.filter(it => !(`fault_${it}` in Cnum.texts)), []);

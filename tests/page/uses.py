@@ -296,6 +296,8 @@ def flaws(use):
     use.value(f"(() => {{ const it = document.getElementById('table'); it.focus(); it.setSelectionRange({place}, {place + 5}); }})()")
     use.call("Input.insertText", text='"onee"')
     yield "a flaw while one types", use.until("document.querySelectorAll('#flaws li').length === 1"), use.text("flaws")
+    bottoms = use.value("['#flaws', '#table-part'].map(it => document.querySelector(it).getBoundingClientRect().bottom)")
+    yield "it is in view", bottoms[0] <= bottoms[1] <= use.value("innerHeight"), bottoms
     lint = called(["lint"], table[:place] + '"onee"' + table[place + 5 :])
     fault = f"An entry names what the table does not have. ({lint[1].decode().strip()})"
     told = use.text("flaws") + "\n", use.text("fault")
@@ -739,7 +741,15 @@ def map_of(use, name, more=""):
 
 def told_maps(use):
     """What the map says of types whose numbers are known."""
+    use.open("#example=types/idle&screen=change")
+    links = "#compare-examples a"
+    yield "the page names some", use.texts(links) == ["queue_1", "saturating_add_1_2", "window_2", "cas_3", "fetch_inc_mod4"], use.texts(links)
+    use.value(f"document.querySelector('{links}').click()")
+    well = use.until("document.getElementById('number').textContent === 'infinite'", 20) and "compare-part" in use.value("[...document.querySelectorAll('.part')].filter(it => it.checkVisibility()).map(it => it.id)")
+    yield "and leads to them", well and 'name = "queue_1"' in use.table(), use.value("location.hash")
     said = map_of(use, "queue_1")
+    hidden = use.value("!document.getElementById('compare-examples').checkVisibility()")
+    yield "they are gone once there is a map", hidden, hidden
     stars = [[it.endswith("*") for it in row] for row in use.value(ENTRIES)]
     well = stars == [[True, False, True], [True, True, False], [False] * 3] and "It rests on 4 of the 9 entries" in said[0]
     yield "a queue rests on its first letter, and on nothing that deq does", well and said[0].endswith("It rests on no entry of deq."), (stars, said)

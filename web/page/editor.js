@@ -26,6 +26,7 @@ var Cnum = globalThis.Cnum || {};
             this.text.setAttribute('aria-invalid', String(flaws.length > 0));
             this.list.replaceChildren(...Cnum.flawTexts(flaws, text).map((it, index) => element('li', {}, this.flaw(it, places[index]))));
             this.mark(text, places.filter(Boolean));
+            if (flaws.length && document.activeElement === this.text) this.list.scrollIntoView({ block: 'nearest' });
         }
 
         flaw(text, place) {

@@ -90,6 +90,7 @@ var Cnum = globalThis.Cnum || {};
             const outcome = element('p', { class: 'outcome' });
             const head = element('div', { class: 'head-row' }, element('h3', {}, say('fail_run', { number: index + 1, team, value })), outcome);
             diagram.classList.add('diagram');
+            diagram.addEventListener('scroll', () => Cnum.holdHeads(diagram));
             states.classList.add('states-of-run');
             const whole = element('section', { class: 'failing-run' }, head, diagram, states);
             return { whole, diagram, states, picture, outcome };
@@ -134,6 +135,10 @@ var Cnum = globalThis.Cnum || {};
             this.fit();
         }
 
+        focus() {
+            this.nextButton.focus();
+        }
+
         // Which of the two buttons can be pressed. A focus on the other one goes to it.
         allow(back, next) {
             const { backButton, nextButton } = this;
@@ -148,6 +153,8 @@ var Cnum = globalThis.Cnum || {};
             const shown = run.events.slice(0, this.position);
             const picture = Cnum.spaceTime(shown, inputs, plan, { doubting: isAtEnd ? doubting : null, isShort: true });
             column.diagram.replaceChildren(picture);
+            column.diagram.scrollLeft = column.diagram.scrollWidth;
+            Cnum.holdHeads(column.diagram);
             const last = shown.filter(it => it.kind === 'applies').pop();
             Cnum.lightUp(column.picture, last ? last.after : start, last);
             column.whole.classList.toggle('wrong', Boolean(run.wrong));

@@ -13,6 +13,8 @@ var Cnum = globalThis.Cnum || {};
     const { SHORTEST, CERTIFICATE } = Cnum.plans.kinds;
     const WITHOUT_READS = '--without-read';
     const MOST_PROCESSES = Cnum.sizes.MOST;
+    // The part with which each screen begins.
+    const FIRST_PARTS = { why: 'number-part', change: 'compare-part', run: 'protocol-part', print: 'sheet-part' };
 
     const at = id => document.getElementById(id);
     const examples = new Map(Cnum.examples.flatMap(group => group.types).map(it => [it.path, it]));
@@ -85,7 +87,7 @@ var Cnum = globalThis.Cnum || {};
             return {
                 picture: (plan, merged) => Cnum.pictureOf(Cnum.mergedGraph(this.graph, merged), plan),
                 name: () => this.nameOfType(),
-                close: () => this.tryAnyway(false),
+                close: () => this.leadToTrial(false),
             };
         }
 
@@ -131,9 +133,10 @@ var Cnum = globalThis.Cnum || {};
                 this.refresh();
             });
             at('plan').addEventListener('change', () => this.choice.choosePlan(at('plan').value));
-            at('try-anyway').addEventListener('click', () => this.tryAnyway(true));
-            at('skip').addEventListener('click', event => this.skipTo(event, 'why', 'number-part'));
-            at('skip-protocol').addEventListener('click', event => this.skipTo(event, 'run', 'protocol-part'));
+            at('try-anyway').addEventListener('click', () => this.leadToTrial(true));
+            at('skip').addEventListener('click', event => this.skipTo(event, 'why'));
+            at('skip-protocol').addEventListener('click', event => this.skipTo(event, 'run'));
+            at('skip-table').addEventListener('click', event => this.skipTo(event, this.screens.screen));
             Cnum.listenToRunKeys(this.protocol, () => at('protocol').getClientRects().length > 0);
             this.listenToUndo();
             at('break-off').addEventListener('click', () => this.breakOff());
@@ -220,11 +223,11 @@ var Cnum = globalThis.Cnum || {};
             this.sheet.show({ kind: linked.view === 'solution' ? 'solution' : 'exercise' });
         }
 
-        // Leads to a part. The address holds the link, and so has no place for the name of a part.
-        skipTo(event, screen, part) {
+        // Leads to a screen. The address holds the link, and so has no place for the name of a part.
+        skipTo(event, screen) {
             event.preventDefault();
             this.screens.open(screen);
-            at(part).focus();
+            at(FIRST_PARTS[screen]).focus();
         }
 
         // Leads to the run that fails if one process more tries it, or back to the protocol.
@@ -233,6 +236,13 @@ var Cnum = globalThis.Cnum || {};
             if (this.isTried) this.screens.open('run');
             this.screens.afterwards();
             this.address.keepSoon();
+        }
+
+        // The same by a button that is then gone: the focus goes to one that is there.
+        leadToTrial(isTried) {
+            this.tryAnyway(isTried);
+            if (this.isTried) this.failing.focus();
+            else at('try-anyway').focus();
         }
 
         // Shows the run that fails in the place of the protocol, if it is wanted and there is one.
@@ -478,7 +488,7 @@ var Cnum = globalThis.Cnum || {};
         // Shows why the number for objects that can be read is what it is.
         showReasons() {
             const example = this.reasons.get(true);
-            const more = { all: () => this.explainAll(), printed: () => this.printedWhy(), tryAnyway: () => this.tryAnyway(true) };
+            const more = { all: () => this.explainAll(), printed: () => this.printedWhy(), tryAnyway: () => this.leadToTrial(true) };
             Cnum.showExplanation(at('why'), example, { ...more, anyway: this.failing.title() });
             Cnum.explainWords(at('why'));
         }
@@ -504,7 +514,7 @@ var Cnum = globalThis.Cnum || {};
             const graph = told && Cnum.mergedGraph(this.graph, told.merged);
             const picture = ({ start, processes }) => Cnum.pictureOf(graph, { start, roles: processes });
             this.tellFailing();
-            const trying = { tryAnyway: () => this.tryAnyway(true), anyway: this.failing.title() };
+            const trying = { tryAnyway: () => this.leadToTrial(true), anyway: this.failing.title() };
             Cnum.showUnreadExplanation(at('why'), told, { picture, printed: () => this.printedUnread(), ...trying });
             Cnum.explainWords(at('why'));
             if (told) this.redraw();

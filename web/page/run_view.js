@@ -142,6 +142,7 @@ var Cnum = globalThis.Cnum || {};
                 'section',
                 { class: 'process', 'aria-labelledby': `process-${process}` },
                 element('h3', { id: `process-${process}` }, say('process', { process })),
+                ' ',
                 ...this.proposal(process),
                 element('ul', {}, ...places),
                 element('div', { class: 'buttons' }, step, stop, ...(this.plan.comeBack ? [crash] : [])),

@@ -66,6 +66,7 @@ var Cnum = globalThis.Cnum || {};
             const isLarge = this.view === LARGE;
             this.open('run');
             this.showView(isLarge ? '' : LARGE);
+            if (isLarge) at('large').focus();
             this.changed();
         }
 

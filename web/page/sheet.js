@@ -41,7 +41,8 @@ var Cnum = globalThis.Cnum || {};
     // What a process can get, or as many gaps, up to some.
     function pairsCell(pairs, isSolved, answer) {
         const shown = isSolved ? pairs : pairs.slice(0, MOST_PAIRS);
-        const parts = shown.flatMap((it, index) => [...(index ? [', '] : []), answer(it.response), '/', answer(it.state)]);
+        const pair = it => element('span', { class: 'pair' }, answer(it.response), '/', answer(it.state));
+        const parts = shown.flatMap((it, index) => [...(index ? [', '] : []), pair(it)]);
         return element('span', {}, ...parts, ...(shown.length < pairs.length ? [' …'] : []));
     }
 

@@ -7,9 +7,9 @@ var Cnum = globalThis.Cnum || {};
 
     const { say, svgElement } = Cnum;
     const LEFT = 16;
-    const TOP = 44;
-    const APART = 78; // between two lines
-    const APART_SHORT = 54; // between two lines with texts above them alone
+    const TALL = { apart: 78, top: 44, bottom: 44 }; // between two lines, above and below them
+    const SHORT = { apart: 54, top: 32, bottom: 14 }; // of lines with texts above them alone
+    const DOUBTS = ['doubts', 'wavers']; // what has a text or a band below
     const GAP = 18; // between the texts of two steps
     const LEAST = 62; // the width of a step
     const EMPTY = 260; // the length of a line before the first step
@@ -38,24 +38,32 @@ var Cnum = globalThis.Cnum || {};
     // What a step did, as one short text.
     Cnum.shortText = event => TEXTS[event.kind](event)[0];
 
+    // Whether a process with a greater number writes right behind another one.
+    const isWriteBehind = ({ kind, process }, before) => Boolean(before) && kind === 'writes' && before.kind === 'writes' && process > before.process;
+
     // The places of a run: for each event its point and texts, and for each process its line. `widthOf` gives
-    // the width of a text. Where all is at one node, the texts need not say so, and the lines can be nearer.
-    Cnum.placeRun = function (events, inputs, widthOf, { apart = APART, isShort = false } = {}) {
+    // the width of a text. Where all is at one node, the texts need not say so, the lines can be nearer, and the proposals
+    // that processes write one after the other stand one above the other.
+    Cnum.placeRun = function (events, inputs, widthOf, { isShort = false } = {}) {
+        const { apart, top, bottom } = isShort ? SHORT : TALL;
         const heads = inputs.map((input, process) => say('st_head', { process, input }));
         const begin = LEFT + Math.max(...heads.map(widthOf)) + GAP;
-        let right = begin;
-        const marks = events.map(event => {
+        let [left, right] = [begin, begin];
+        const marks = events.map((event, index) => {
             const texts = isShort && event.kind !== 'doubts' ? [TEXTS[event.kind](event)[0], ''] : TEXTS[event.kind](event);
             const width = Math.max(LEAST, ...texts.map(it => widthOf(it) + GAP));
-            right += width;
-            return { event, texts, right, x: right - width / 2, y: TOP + apart * event.process };
+            if (!(isShort && isWriteBehind(event, events[index - 1]))) left = right;
+            right = Math.max(right, left + width);
+            return { event, texts, right, x: left + width / 2, y: top + apart * event.process };
         });
         const lines = heads.map((head, process) => {
             const last = marks.filter(it => it.event.process === process).pop();
             const hasEnded = last && ['decides', 'stops'].includes(last.event.kind);
-            return { head, from: begin, to: hasEnded ? last.x : Math.max(right, begin + EMPTY) + GAP, y: TOP + apart * process };
+            return { head, from: begin, to: hasEnded ? last.x : Math.max(right, begin + EMPTY) + GAP, y: top + apart * process };
         });
-        return { marks, lines, width: Math.max(right, begin + EMPTY) + 2 * GAP, height: TOP + apart * (inputs.length - 1) + 44 };
+        const last = inputs.length - 1;
+        const below = events.some(it => it.process === last && DOUBTS.includes(it.kind)) ? top : bottom;
+        return { marks, lines, width: Math.max(right, begin + EMPTY) + 2 * GAP, height: top + apart * last + below };
     };
 
     // The parts of a run, each no wider than this: where each begins and ends. It ends between two steps.
@@ -141,7 +149,7 @@ var Cnum = globalThis.Cnum || {};
     // The diagram as an element. A process has the team of its place at the node of the event. The one that cannot tell stands
     // out, if there is one.
     Cnum.spaceTime = function (events, inputs, plan, { doubting = null, isShort = false } = {}) {
-        const { marks, lines, width, height } = Cnum.placeRun(events, inputs, Cnum.widthOf, isShort ? { apart: APART_SHORT, isShort } : {});
+        const { marks, lines, width, height } = Cnum.placeRun(events, inputs, Cnum.widthOf, { isShort });
         const teamOf = ({ process, node }) => (plan.paths[process].find(it => it.node === node) || {}).team;
         const size = { viewBox: `0 0 ${Math.ceil(width)} ${height}`, width: Math.ceil(width), height };
         const about = say('st_about', { processes: inputs.length, steps: events.length });
