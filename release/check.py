@@ -1,17 +1,14 @@
 #!/usr/bin/env python3
 """usage: check.py TABLE CERTIFICATE | TABLE --infinite STATE ONE MANY
-Checks a certificate for the consensus number of a type, with reads or without, or of a plan tree, or that the number is infinite. Prints
-`ok`, with status 0, or what is wrong, with status 1. Needs Python 3.11 alone. Follows docs/FORMATS.md and docs/DEFINITIONS.md, and shares
-no line with the program."""
-import collections, functools, itertools, json, pathlib, re, sys, tomllib
+Checks a certificate for the consensus number of a type, with reads or without, or of a plan tree, or that the number is infinite. Prints `ok`, with
+status 0, or what is wrong, with status 1. Needs Python 3.11 alone. Follows docs/FORMATS.md and docs/DEFINITIONS.md, with no line of the program."""
+import collections, itertools, json, pathlib, re, sys, tomllib
 MOST_STATES, MOST_RESPONSES, MOST_OPERATIONS = 16, 16, 8
 flat = lambda it: [leaf for inner in it for leaf in flat(inner)] if type(it) is list else [it]
 def demand(holds, wrong):
     if not holds: raise ValueError(wrong)
-
 def are_numbers(*lists):  # Python takes True and 1.0 for 1; a certificate does not
     return all(type(them) is list and all(type(it) is int and it >= 0 for it in them) for them in lists)
-
 def names(them, most):
     demand(type(them) is list and 1 <= len(set(them)) == len(them) <= most, f"none, too many, or one twice: {them}")
     demand(all(re.fullmatch("[a-z0-9_]{1,32}", it) for it in them), f"a name that is none: {them}")
@@ -48,9 +45,8 @@ class Type:  # states, operations, processes and entries have numbers, from 0
             teams = (itertools.combinations_with_replacement(some, it) for it in (size, n - size))
             yield from ([start, [*a], [*b]] for a, b in itertools.product(*teams) if size < n - size or a <= b)
     def check(self, certificate):  # a witness for the number; none for one process more, and so none for still more
-        if certificate["version"] == 3: return self.check_stocks(certificate)
-        if certificate["version"] == 4: return Unread(self).check(certificate)
-        if certificate["version"] == 5: return self.check_tree(certificate)
+        others = {3: self.check_stocks, 4: lambda it: Unread(self).check(it), 5: self.check_tree}
+        if certificate["version"] in others: return others[certificate["version"]](certificate)
         demand([*sorted(certificate)] == "collisions limit number type version witness".split(), "another key")
         entries, limit, number, name, version, witness = (certificate[key] for key in sorted(certificate))
         demand(name == self.name and type(entries) is list, "the type, or the collisions")
@@ -203,12 +199,16 @@ class Unread(Type):  # a type that is not read, with one state for all that no o
         demand(ways[key](low, *shown), "the lower bound is not shown")
         demand(high is None and most is None or self.is_trap(high + 1, most), "the upper bound is not shown")
 
+def value_of(text):  # of JSON whose numbers are no greater than a float can be, with no half of a character, and nested 127 deep at most
+    number = lambda it: demand(abs(float(it)) < float("inf"), f"no such number: {it}") or (int(it) if it.isdigit() else float(it))
+    demand(max(itertools.accumulate(1 if it in "[{" else -1 for it in re.findall(r"[][{}]", re.sub(r'"(?:[^"\\]|\\.)*"', "", text))), default=0) < 128, "nested too deep")
+    return json.loads(text, parse_int=number, parse_float=number, parse_constant=number, object_pairs_hook=lambda it: json.dumps(it, ensure_ascii=False).encode() and dict(it))
+
 def fault(table, *words):  # what is wrong, or None
     read = lambda name: pathlib.Path(name).read_bytes().decode()
-    unsigned = lambda digits: int(digits) if digits.isdigit() else float(digits)
     try:
         kind, is_infinite = Type(tomllib.loads(read(table))), words[0] == "--infinite"
-        kind.check_infinite(*words[1:]) if is_infinite else kind.check(json.loads(read(*words), parse_int=unsigned))
+        kind.check_infinite(*words[1:]) if is_infinite else kind.check(value_of(read(*words)))
     except (AttributeError, LookupError, OSError, RecursionError, TypeError, ValueError) as wrong:
         return f"wrong: {wrong}"
 

@@ -1,7 +1,9 @@
-#!/usr/bin/env node
+#!/bin/sh
+':' //; c=; (: 3<&0) 2>/dev/null || c=0; (: 3<&1) 2>/dev/null || c=${c}1; (: 3<&2) || c=${c}2; CNUM_CLOSED=$c exec node "$0" "$@"
 // The program cnum on any machine with Node: web/node.js WORDS..
 // It runs the module of the page over the words, files and streams of the system. So it answers as the native program
-// does, but for `serve`, since a module starts no thread.
+// does, but for `serve`, since a module starts no thread. Node opens streams that are closed; so the line above, which is
+// for the shell alone, notes which of the three are.
 'use strict';
 
 const fs = require('fs');
@@ -12,6 +14,8 @@ const zlib = require('zlib');
 const PAUSE = 5; // milliseconds until a stream that is not ready is asked again
 const ERRORS = { EIO: 5, EPIPE: 32 }; // the errors that the program tells apart, by their numbers there
 const STATUS = { missing: 4, failed: 134 };
+const CLOSED = new Set([...(process.env.CNUM_CLOSED || '')].map(Number));
+const NAMES = ['stdin', 'stdout', 'stderr'];
 
 // What a call to the system gives; if it fails, its error as a number below 0. A stream that is not ready is asked
 // until it is.
@@ -27,11 +31,22 @@ function answered(call) {
     }
 }
 
+// The same over a stream, unless that is closed.
+function asked(number, call) {
+    return CLOSED.has(number) ? -ERRORS.EIO : answered(call);
+}
+
+// The stream that a name of the system stands for, if it is one.
+function streamOf(name) {
+    const [, end] = name.match(/^\/(?:dev|proc\/self)\/(?:fd\/)?([012]|std\w+)$/) || [];
+    return NAMES.includes(end) ? NAMES.indexOf(end) : Number(end);
+}
+
 // The streams of the program are those of the system, by the same numbers.
 const streams = {
-    open: name => answered(() => fs.openSync(Buffer.from(name), 'r')),
-    read: (number, to) => answered(() => fs.readSync(number, to, 0, to.length, null)),
-    write: (number, from) => answered(() => fs.writeSync(number, from, 0, from.length)),
+    open: name => asked(streamOf(Buffer.from(name).toString()), () => fs.openSync(Buffer.from(name), 'r')),
+    read: (number, to) => asked(number, () => fs.readSync(number, to, 0, to.length, null)),
+    write: (number, from) => asked(number, () => fs.writeSync(number, from, 0, from.length)),
     close: number => answered(() => fs.closeSync(number) || 0),
 };
 

@@ -2,7 +2,6 @@
 use crate::fixtures::table_of;
 use crate::types;
 use cn_stocks::Threading;
-use cn_table::{Operation, Response, State};
 use cn_telling::{exact_split, exact_split_by, greatest_told, last_search};
 use std::test::Fail;
 
@@ -26,9 +25,9 @@ fn known_types_split(rt: HostRuntime) -> Result<(), Fail> {
     Ok(())
 }
 
-/// The search of a table serves for it with another response of its first entry.
+/// A search up to where no stock tells tells where stocks split.
 #[test]
-fn a_search_serves_other_responses(rt: HostRuntime) -> Result<(), Fail> {
+fn a_last_search_tells_of_splits(rt: HostRuntime) -> Result<(), Fail> {
     for (text, expected) in [
         (types::test_and_set(), None),
         (types::sticky_bit(), Some(5)),
@@ -37,12 +36,7 @@ fn a_search_serves_other_responses(rt: HostRuntime) -> Result<(), Fail> {
         let alloc = rt.alloc();
         let table = table_of(alloc, text)?;
         let last = last_search(&rt, alloc, &table, 5, Threading::One)?;
-        let (response, next) = table.apply(Operation(0), State(0));
-        let other = Response(table.responses() - 1 - response.0);
-        let changed = table.with_entry(alloc, Operation(0), State(0), other, next)?;
         assert!(rt; exact_split_by(alloc, &table, 5, &last)? == expected);
-        let found = exact_split(&rt, alloc, &changed, 5, Threading::One)?;
-        assert!(rt; exact_split_by(alloc, &changed, 5, &last)? == found);
     }
     Ok(())
 }

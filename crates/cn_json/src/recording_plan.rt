@@ -3,6 +3,7 @@ ghost use Rattle.std.specs.Prelude.{◌≡◌, ◌<◌, IfOk, codes, length, map
 ghost use Rattle.std.specs.List.{range_with_len};
 ghost use Rattle.serde_json.specs.Written.{compact_text};
 ghost use Rattle.cn_proto.specs.Plan.{processes_of};
+ghost use Rattle.cn_json.specs.Plans.{path_data};
 ghost use Rattle.cn_json.specs.RecordingPlans.{judged_state_data, life_path_data, life_role_data, recording_plan_data};
 ghost use Rattle.cn_json.specs.Tokens.{each_value, Appends, member_tokens, value_tokens};
 ghost use Rattle.cn_json.specs.Values.{list_data};
@@ -11,6 +12,7 @@ use crate::json_text::JsonText;
 use crate::json_text::Primitive::{Boolean, Byte, Text};
 use cn_lives::RecordingPlan;
 use cn_plan_text::{life_steps, most_life_steps};
+use cn_proto::Plan;
 use cn_table::State;
 use std::alloc::{AllocError, Global};
 
@@ -48,13 +50,22 @@ fn write_judges(out: &mut JsonText, plan: &RecordingPlan) -> Result<(), AllocErr
     out.end_array()
 }
 
+/// A key and an array with the places of a process.
+fn write_places(out: &mut JsonText, plan: &Plan, process: u8) -> Result<(), AllocError>
+    requires { process < processes_of plan.now }
+    ensures { Appends result out.old out.new
+        (member_tokens (codes "places") (path_data plan.now process)) }
+{
+    out.array_at("places", plan.table(), plan.path(process))
+}
+
 fn write_path(out: &mut JsonText, plan: &RecordingPlan, process: u8) -> Result<(), AllocError>
     requires { process < processes_of plan.now.plan }
     ensures { Appends result out.old out.new (value_tokens (life_path_data plan.now process)) }
 {
     let steps = life_steps(plan, process);
     out.begin_object()?;
-    out.array_at("places", plan.plan().table(), plan.plan().path(process))?;
+    write_places(out, plan.plan(), process)?;
     out.last_members(&[("process", Byte(process)), ("steps", Byte(steps))])
 }
 
@@ -117,18 +128,21 @@ fn write_roles(out: &mut JsonText, plan: &RecordingPlan) -> Result<(), AllocErro
 fn write_plan(out: &mut JsonText, plan: &RecordingPlan) -> Result<(), AllocError>
     ensures { Appends result out.old out.new (value_tokens (recording_plan_data plan.now)) }
 {
-    let (table, steps) = (plan.plan().table(), most_life_steps(plan));
+    let (two_teams, steps) = (plan.plan(), most_life_steps(plan));
     out.begin_object()?;
     write_judges(out, plan)?;
     out.member("lone", Boolean(plan.is_lone()))?;
-    out.member("nodes", Byte(plan.plan().nodes()))?;
+    out.member("nodes", Byte(two_teams.nodes()))?;
     write_paths(out, plan)?;
-    out.member("processes", Byte(plan.plan().processes()))?;
+    out.member("processes", Byte(two_teams.processes()))?;
     write_roles(out, plan)?;
     out.last_members(&[
-        ("start", Text(table.state_name(plan.plan().start()))),
+        (
+            "start",
+            Text(two_teams.table().state_name(two_teams.start())),
+        ),
         ("steps", Byte(steps)),
-        ("type", Text(table.name())),
+        ("type", Text(two_teams.table().name())),
     ])
 }
 

@@ -41,8 +41,7 @@ abbrev pub one_team_line : ℕ → ℕ → List ℕ
 one_team_line count n =
     if count == 0 then []
     else concat (codes "  From each state, the joins whose runs " ∷ decimal n
-    ∷ codes " processes can do put all of them into one team; "
-    ∷ codes "operations that lead from each state to the same one count as one.\n" ∷ [])
+    ∷ codes " processes can do put all of them into one team; operations that lead from each state to the same one count as one.\n" ∷ [])
 
 -- that no protocol does it for n processes
 abbrev pub theorem_line : ℕ → List ℕ

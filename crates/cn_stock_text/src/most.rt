@@ -82,9 +82,9 @@ fn push_one_team(text: &mut String, count: usize, n: u8) -> Result<(), AllocErro
     }
     write!(
         text,
-        "  From each state, the joins whose runs {n} processes can do put all of them into one team; "
-    )?;
-    text.push_str("operations that lead from each state to the same one count as one.\n")
+        "  From each state, the joins whose runs {n} processes can do put all of them into one team; \
+         operations that lead from each state to the same one count as one.\n"
+    )
 }
 
 /// Appends that no protocol does it for n processes.

@@ -4,10 +4,10 @@ use Rattle.cn_json.proofs.Pieces.{piece}
 use Rattle.cn_json.proofs.flaws.write_notes.Goals as goal
 
 pub array_at-requires : goal.array_at-requires
-array_at-requires c = known_idle c.args.table.now c.args.notes.now.idle.items c.requires.idle
+array_at-requires c = rw (c.deref.ensures.value) (known_idle c.args.table.now c.args.notes.now.idle.items c.requires.idle)
 
-pub array_at-2-requires : goal.array_at-2-requires
-array_at-2-requires c = known_unreached c.args.table.now c.args.notes.now.unreached.items c.requires.unreached
+pub array_at-requires-2 : goal.array_at-requires-2
+array_at-requires-2 c = rw (c.deref-2.ensures.value) (known_unreached c.args.table.now c.args.notes.now.unreached.items c.requires.unreached)
 
 pub returns : goal.returns
 unfolding notes_data
