@@ -19,8 +19,8 @@ const INSTANCES: usize = 100_000;
 struct Word(AtomicUsize);
 
 impl Word {
-    fn new() -> Self {
-        Word(AtomicUsize::new(0))
+    fn new(state: usize) -> Self {
+        Word(AtomicUsize::new(state))
     }
 
     /// The value before, as compare-and-swap answers.
@@ -59,24 +59,46 @@ impl cas::Object for Word {
     }
 }
 
-/// Nanoseconds of a call of `decide` for each instance.
-fn timed<T>(instances: &[T], decide: impl Fn(&T) -> u64) -> (f64, Vec<u64>) {
-    let began = Instant::now();
-    let decided = instances.iter().map(decide).collect();
-    (began.elapsed().as_nanos() as f64 / instances.len() as f64, decided)
+/// The handle of a process on a decision by hand.
+struct Hand(&'static by_hand::Consensus, usize);
+
+/// Puts a decision where it stays, so that to drop a handle takes no time.
+fn kept<T>(decision: T) -> &'static T {
+    Box::leak(Box::new(decision))
 }
 
-fn measure<T: Sync>(name: &str, make: impl Fn() -> T, decide: impl Fn(&T, usize, u64) -> u64 + Sync) {
-    let made = || (0..INSTANCES).map(|_| make()).collect::<Vec<_>>();
-    let (alone, _) = timed(&made(), |it| decide(it, PROCESSES - 1, 5));
-    let (shared, barrier) = (made(), Barrier::new(PROCESSES));
-    let (instances, decide, barrier) = (&shared, &decide, &barrier);
+fn by_hand() -> [Hand; PROCESSES] {
+    let decision = kept(by_hand::Consensus::new());
+    from_fn(|process| Hand(decision, process))
+}
+
+/// Nanoseconds of a call of `decide` for each handle.
+fn timed<H>(handles: Vec<H>, decide: impl Fn(H) -> u64) -> (f64, Vec<u64>) {
+    let (count, began) = (handles.len() as f64, Instant::now());
+    let decided = handles.into_iter().map(decide).collect();
+    (began.elapsed().as_nanos() as f64 / count, decided)
+}
+
+/// The handles of each process on all instances.
+fn made<H>(make: impl Fn() -> [H; PROCESSES]) -> [Vec<H>; PROCESSES] {
+    let mut all = from_fn(|_| Vec::with_capacity(INSTANCES));
+    for _ in 0..INSTANCES {
+        all.iter_mut().zip(make()).for_each(|(handles, handle)| handles.push(handle));
+    }
+    all
+}
+
+fn measure<H: Send>(name: &str, make: impl Fn() -> [H; PROCESSES], decide: impl Fn(H, u64) -> u64 + Sync) {
+    let last = made(&make).into_iter().next_back().expect("there are processes");
+    let (alone, _) = timed(last, |it| decide(it, 5));
+    let (decide, barrier) = (&decide, &Barrier::new(PROCESSES));
     let told: Vec<(f64, Vec<u64>)> = thread::scope(|scope| {
-        let begun: Vec<_> = (0..PROCESSES)
-            .map(|process| {
+        let begun: Vec<_> = (0..)
+            .zip(made(&make))
+            .map(|(process, handles)| {
                 scope.spawn(move || {
                     barrier.wait();
-                    timed(instances, |it| decide(it, process, process as u64))
+                    timed(handles, |it| decide(it, process))
                 })
             })
             .collect();
@@ -88,8 +110,8 @@ fn measure<T: Sync>(name: &str, make: impl Fn() -> T, decide: impl Fn(&T, usize,
 }
 
 fn main() {
-    measure("chain", || chain::Consensus::new(from_fn(|_| Word::new())), |it, process, value| it.decide(process, value));
-    measure("sticky", || sticky::Consensus::new(from_fn(|_| Word::new())), |it, process, value| it.decide(process, value));
-    measure("cas", || cas::Consensus::new(from_fn(|_| Word::new())), |it, process, value| it.decide(process, value));
-    measure("by_hand", by_hand::Consensus::new, |it, process, value| it.decide(process, value));
+    measure("chain", || chain::Consensus::processes(Word::new, kept), |it, value| it.decide(value));
+    measure("sticky", || sticky::Consensus::processes(Word::new, kept), |it, value| it.decide(value));
+    measure("cas", || cas::Consensus::processes(Word::new, kept), |it, value| it.decide(value));
+    measure("by_hand", by_hand, |Hand(decision, process), value| decision.decide(process, value));
 }

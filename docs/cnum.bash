@@ -40,9 +40,11 @@ _cnum() {
         [[ $previous == --as ]] && values='text json markdown'
         ;;
     show)
-        options='--recoverable --shortest --without-read --processes --as --table -h --help' arguments='CERT FILE'
+        options='--recoverable --shortest --without-read --processes --as --object --start --prefix --table -h --help' arguments='CERT FILE'
         [[ $previous == --processes ]] && values='2 3 4 5 6 7 8'
-        [[ $previous == --as ]] && values='text json dot promela rust c'
+        [[ $previous == --as ]] && values='text json dot promela rust c h'
+        [[ $previous == --start ]] && values=' '
+        [[ $previous == --prefix ]] && values=' '
         ;;
     draw)
         options='--table -h --help' arguments='FILE'
@@ -74,14 +76,14 @@ _cnum() {
         mapfile -t COMPREPLY < <(compgen -W "$options" -- "$current")
         return
     fi
-    if [[ $previous == [\<\>]* || $previous == --table ]]; then
+    if [[ $previous == [\<\>]* || $previous == --object || $previous == --table ]]; then
         mapfile -t COMPREPLY < <(compgen -f -- "$current")
         compopt -o filenames 2>/dev/null
         return
     fi
     for ((at = 2; at < COMP_CWORD; at++)); do
         case ${COMP_WORDS[at]} in
-        --as | --limit | --processes | --table) ((at++)) ;;
+        --as | --limit | --object | --prefix | --processes | --start | --table) ((at++)) ;;
         [\<\>]*) ((at++)) ;;
         -* | @) ;;
         *) words+=("${COMP_WORDS[at]}") ;;

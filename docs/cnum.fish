@@ -7,7 +7,7 @@ function __cnum_words
             set is_value no
         else
             switch $word
-                case --as --limit --processes --table
+                case --as --limit --object --prefix --processes --start --table
                     set is_value yes
                 case '-*'
                 case '*'
@@ -109,7 +109,10 @@ complete -c cnum -n '__cnum_is show' -l recoverable -d 'Writes the plan of proce
 complete -c cnum -n '__cnum_is show' -l shortest -d 'Writes the shortest plan, with no certificate: CERT is the table'
 complete -c cnum -n '__cnum_is show' -l without-read -d 'Writes the shortest plan of which no process reads'
 complete -c cnum -n '__cnum_is show' -l processes -x -a '2 3 4 5 6 7 8' -d 'How many processes there are, from 2 to 8, where there is no certificate'
-complete -c cnum -n '__cnum_is show' -l as -x -a 'text json dot promela rust c' -d 'The form in which the plan is written'
+complete -c cnum -n '__cnum_is show' -l as -x -a 'text json dot promela rust c h' -d 'The form in which the plan is written'
+complete -c cnum -n '__cnum_is show' -l object -r -F -d 'The file that holds the table of an object, which the program then has too'
+complete -c cnum -n '__cnum_is show' -l start -x -a '' -d 'The state in which the object starts'
+complete -c cnum -n '__cnum_is show' -l prefix -x -a '' -d 'What stands in the names of a program in C, in place of consensus'
 complete -c cnum -n '__cnum_is show' -l table -r -F -d 'The file that holds the type table, in place of standard input'
 complete -c cnum -n '__cnum_is show' -s h -l help -d 'Print help'
 complete -c cnum -n '__cnum_at show 1' -F

@@ -74,9 +74,9 @@ def bash(top, helps):
         filed |= {names[-1] for names, value, _ in options if value in FILES}
         text += f"    {name})\n        options='{' '.join(word for names, _, _ in options for word in names)}'"
         text += f" arguments='{' '.join(one.arguments())}'\n"
-        for names, _, values in options:
-            if values:
-                text += f"        [[ $previous == {names[-1]} ]] && values='{' '.join(values)}'\n"
+        for names, value, values in options:
+            if value and value not in FILES:
+                text += f"        [[ $previous == {names[-1]} ]] && values='{' '.join(values) or ' '}'\n"
         text += "        ;;\n"
     names = {"NAMES": " ".join(top.commands()), "TOP_OPTIONS": " ".join(word for words, _, _ in top.options() for word in words)}
     names |= {"FILED": "".join(f" || $previous == {it}" for it in sorted(filed))}

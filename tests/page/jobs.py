@@ -135,17 +135,22 @@ class Jobs:
         events = ",".join([f"i{p}:0" for p in range(n)] + [f"s{p}" for p in schedule])
         as_forms = [["check", "--as", "json"], ["explain", "--as", "json"], ["explain", "--all", "--as", "json"]]
         as_forms += [["show", "--as", form] for form in ("json", "dot", "promela", "rust", "c")]
+        as_forms += [["show", "--as", form, "--prefix", "counter_3"] for form in ("c", "h")]
         for words in (["check"], ["explain"], ["explain", "--all"], ["show"], *as_forms):
             self.run([*words, "C"], table, C=certificate)
         self.run(["agree", "C", listed(range(1, 1 + n)), listed(schedule[:60])], table, C=certificate)
         self.run(["agree", "--steps", "--as", "json", "C", listed(range(1, 1 + n)), listed(schedule[:60])], table, C=certificate)
         self.run(["replay", "C", "O", "0", "4", events], table, C=certificate, O=COUNTER)
         self.run(["replay", "--as", "json", "C", "O", "0", "4", "@E"], table, C=certificate, O=COUNTER, E=events.encode() + b"\n")
+        for options in (["--as", "rust"], ["--as", "c"], ["--as", "h", "--prefix", "counter_3"]):
+            self.run(["show", *options, "--object", "O", "--start", "0", "C"], table, C=certificate, O=COUNTER)
         self.run(["serve", "C", "O", "0", "4", "/".join(["0,0"] + ["none"] * (n - 1))], table, C=certificate, O=COUNTER)
 
     def of_plan(self, table, n):
         for form in ("text", "json", "dot", "promela", "rust", "c"):
             self.run(["show", "--shortest", "--processes", str(n), "--as", form, "-"], table)
+        for options in (["--as", "rust"], ["--as", "c", "--prefix", "counter_3"], ["--as", "h", "--prefix", "counter_3"]):
+            self.run(["show", "--shortest", "--processes", str(n), *options, "--object", "O", "--start", "0", "-"], table, O=COUNTER)
         for schedule in ([(k * 5 + k // 3) % n for k in range(12 * n)], [k % n for k in range(12 * n)], [0]):
             words = [",".join(map(str, its)) for its in (range(1, 1 + n), schedule)]
             self.run(["agree", "--shortest", "--processes", str(n), "--steps", "--as", "json", "-", *words], table)

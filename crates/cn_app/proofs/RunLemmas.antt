@@ -6,7 +6,7 @@ use Rattle.cn_cert.specs.Reading as certificate
 use Rattle.cn_log.specs.Opening.{Log, Opening}
 use Rattle.cn_table.specs.TypeTable.{TypeTable}
 use Rattle.cn_cert.specs.Certificate.{Certificate}
-use Rattle.cn_form.specs.declared.plan_form.PlanForm.TheVariants as form
+use Rattle.cn_app.specs.declared.plan_style.PlanStyle.TheVariants as style
 use Rattle.cn_io.specs.Arguments.Calls.{GivesCalls, calls_in}
 use Rattle.cn_io.specs.Arguments.Events.{GivesCapacity, GivesEvents, events_in, words_of}
 use Rattle.cn_io.specs.Arguments.Lists.{GivesLists}
@@ -116,8 +116,8 @@ module _ {R C : Type 0} (t : Text R) (c : Text C) (table_bytes certificate_bytes
   check_is r (inr (u, gives, inl (e, ends, is))) = inl (e, inr (u, table_is (Ok u) gives, certificate_then u (Err e) ends), is)
   check_is r (inr (u, gives, inr (checked, ends, report))) = inr (checked, inr (u, table_is (Ok u) gives, certificate_then u (Ok checked) ends), report)
 
-  pub show_is : (r : Result Report AppFault) → HasShowReport t c form.Text r → show_of table_bytes certificate_bytes r
-  show_is r h = then_same (GivesChecked t c) (ReadsChecked table_bytes certificate_bytes) (λ checked. IsShowReport checked form.Text) checked_is r h
+  pub show_is : (r : Result Report AppFault) → HasShowReport t c style.Text r → show_of table_bytes certificate_bytes r
+  show_is r h = then_same (GivesChecked t c) (ReadsChecked table_bytes certificate_bytes) (λ checked. IsShowReport checked style.Text) checked_is r h
 
   pub agree_is : (inputs schedule : ListText) (r : Result Report AppFault) → HasAgreeReport t c inputs schedule decisions_in_lines r → agree_of table_bytes certificate_bytes inputs schedule r
   agree_is inputs schedule r h =

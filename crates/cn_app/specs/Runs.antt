@@ -5,7 +5,7 @@ use Rattle.std.specs.Io.KnownBytes.{Appends}
 use Rattle.cn_table.specs.TypeTable.{TypeTable}
 use Rattle.cn_cert.specs.Certificate.{Certificate}
 use Rattle.cn_log.specs.Opening.{Log, Opening}
-use Rattle.cn_form.specs.declared.plan_form.PlanForm.TheVariants as form
+use Rattle.cn_app.specs.declared.plan_style.PlanStyle.TheVariants as style
 use Rattle.cn_form.specs.declared.answer_form.AnswerForm.TheVariants as answer
 use Rattle.cn_io.specs.Arguments.Calls.{GivesCalls, calls_in}
 use Rattle.cn_io.specs.Arguments.Events.{GivesCapacity, GivesEvents, events_in, words_of}
@@ -81,7 +81,7 @@ check_of table certificate r =
 
 abbrev pub show_of : List ℕ → List ℕ → Result Report AppFault → Type 0
 show_of table certificate r =
-    Then (ReadsChecked table certificate) (λ checked. IsShowReport checked form.Text) r
+    Then (ReadsChecked table certificate) (λ checked. IsShowReport checked style.Text) r
 
 -- the decisions alone, in lines
 abbrev pub decisions_in_lines : AskedRun

@@ -12,6 +12,7 @@
 mod of_certificates;
 mod of_lives;
 mod of_logs;
+mod of_objects;
 mod of_plan_certificates;
 mod of_several_tables;
 mod of_shortest_plans;
@@ -21,6 +22,7 @@ mod of_tables;
 pub use of_certificates::{agree, check, check_unread, explain, show};
 pub use of_lives::{agree_recoverably, show_recoverable};
 pub use of_logs::{replay, serve};
+pub use of_objects::{show_object, show_shortest_object};
 pub use of_plan_certificates::{check_shortest, find_shortest};
 pub use of_several_tables::{NamedTable, Tell, classify_each};
 pub use of_shortest_plans::{agree_shortest, show_shortest};

@@ -32,6 +32,7 @@
 mod answers;
 pub mod commands;
 mod lines;
+mod plan_style;
 pub mod reports;
 mod runs;
 
@@ -42,4 +43,5 @@ pub use cn_io::{
     read_argument, read_calls, read_events, read_inputs, read_life_schedule, read_schedule,
     readers,
 };
+pub use plan_style::{PlanStyle, read_prefix};
 pub use runs::{run_agree, run_check, run_find, run_replay, run_serve, run_show};

@@ -11,8 +11,9 @@ ghost use Rattle.cn_service.specs.Workers.{EachHasOneGate};
 ghost use Rattle.cn_io.specs.declared.arguments.list_text.ListText.TheVariants.{Word};
 
 use crate::commands;
+use crate::plan_style::PlanStyle;
 use crate::reports::AskedRun;
-use cn_form::{AnswerForm, PlanForm};
+use cn_form::AnswerForm;
 use cn_hall::Gate;
 use cn_io::readers::OpeningArguments;
 use cn_io::{AppFault, ListText, Outcome, Output, Text};
@@ -94,7 +95,7 @@ pub fn run_check<T, R: Read + Drop, C: Read + Drop, W: Write>(
 }
 
 /// Reads a type table and a certificate, checks the certificate against the table, and writes the
-/// plan of the certificate's witness ([`show`](commands::show), in the form `PlanForm::Text`).
+/// plan of the certificate's witness ([`show`](commands::show), in the style `PlanStyle::Text`).
 ///
 /// # Errors
 ///
@@ -119,7 +120,7 @@ pub fn run_show<T, R: Read + Drop, C: Read + Drop, W: Write>(
         &mut table,
         &mut certificate,
         &mut output,
-        PlanForm::Text,
+        &PlanStyle::Text,
     );
     hand_over(writer, &output, ended)
 }

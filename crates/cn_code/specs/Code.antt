@@ -1,6 +1,6 @@
 -- The program of a plan: what all programs have in common, and between its parts what is of the
 -- plan.
-use Rattle.std.specs.Prelude.{ℕ, List, [], ◌++◌, length, codes, flat_map}
+use Rattle.std.specs.Prelude.{ℕ, ◌*◌, ◌-◌, List, [], ◌++◌, length, codes, flat_map, Option}
 use Rattle.std.specs.Prelude.{slice_index}
 use Rattle.std.specs.List.{range_with_len}
 use Rattle.cn_table.specs.Names.{name_at}
@@ -12,8 +12,12 @@ use Rattle.cn_proto.specs.Plan.{Plan, processes_of, nodes_of, protocol_of}
 use Rattle.cn_proto.specs.PlanText.{operation_name_of}
 use Rattle.cn_proto.specs.Protocol.{place_of}
 use Rattle.cn_proto.specs.declared.place.Place.{Place}
-use Rattle.cn_code.specs.Frame.{all_names, comma, number_code, numbers_code, own_word, places_word}
-use Rattle.cn_code.specs.Frame.{program_code, text_code, word}
+use Rattle.cn_code.specs.Frame.{comma, counts_code, interface_code, intro_code, number_code}
+use Rattle.cn_code.specs.Frame.{object_tables, own_word, places_word, program_code, start_line}
+use Rattle.cn_code.specs.Frame.{table_code, text_code, title_code, word}
+use Rattle.cn_code.specs.Naming.{named, naming_of, naming_with}
+use Rattle.cn_code.specs.Served.{Served}
+use Rattle.cn_code.specs.declared.frame.Counts.{Counts}
 use Rattle.cn_code.specs.declared.language.Form.TheVariants.{Tournament}
 use Rattle.cn_code.specs.declared.language.Language.{Language}
 use Rattle.cn_code.specs.declared.language.Language.TheVariants.{Rust, C}
@@ -21,9 +25,10 @@ use Rattle.cn_code.specs.declared.language.OwnPart.TheVariants.{Judgements, Row,
 use Rattle.cn_code.specs.declared.language.Part.TheVariants.{ProcessField, NodeField, TeamField}
 use Rattle.cn_code.specs.declared.language.Part.TheVariants.{OperationField, OperationName}
 use Rattle.cn_code.specs.declared.language.Part.TheVariants.{JudgementStart, JudgementEnd, LineEnd}
-use Rattle.cn_code.specs.declared.language.Part.TheVariants.{InTournament, Own}
-use Rattle.cn_code.specs.declared.language.TournamentPart.TheVariants.{Start, StartNumber, RoleField}
-use Rattle.cn_code.specs.declared.language.TournamentPart.TheVariants.{RoleNumber, RoleOperation, Team}
+use Rattle.cn_code.specs.declared.language.Part.TheVariants.{InTournament, Own, Starts}
+use Rattle.cn_code.specs.declared.language.TournamentPart.TheVariants.{RoleField, RoleNumber}
+use Rattle.cn_code.specs.declared.language.TournamentPart.TheVariants.{RoleOperation, Team}
+use Rattle.cn_code.specs.declared.names.Whose.TheVariants.{OfType}
 
 -- ---- parts
 
@@ -33,16 +38,28 @@ team_code l team = text_code l (InTournament Team) (team_name team)
 
 -- ---- the head
 
--- the state in which each object starts
-abbrev pub start_code : Language → Plan → List ℕ
-start_code l plan = text_code l (InTournament Start) (name_at plan.table.states plan.choice.state)
-    ++ number_code l (InTournament StartNumber) plan.choice.state
+-- the numbers of the program: two teams meet at each node, and a process takes four steps at each
+abbrev pub counts_of : Plan → Counts
+counts_of plan = record {
+  processes = processes_of plan;
+  nodes = nodes_of plan;
+  teams = 2;
+  steps = 4 * (processes_of plan - 1);
+}
 
--- the type, the numbers of processes and nodes, and the start state
-abbrev pub head_code : Language → Plan → List ℕ
-head_code l plan =
-    numbers_code l Tournament plan.table.name (processes_of plan) (nodes_of plan)
-    ++ start_code l plan
+-- up to the tables
+abbrev pub head_code : Language → Plan → Option Served → List ℕ
+head_code l plan object =
+    title_code l plan.table.name (processes_of plan) object ++ intro_code l Tournament object
+    ++ counts_code l (counts_of plan) ++ interface_code l Tournament object
+
+-- ---- start states
+
+-- the state in which the object of each node starts
+abbrev pub starts_code : Language → Plan → List ℕ
+starts_code l plan =
+    word l Starts
+    ++ flat_map (start_line l plan.table plan.choice.state) (range_with_len 0 (nodes_of plan))
 
 -- ---- places
 
@@ -134,16 +151,26 @@ judgements_code l plan =
 
 -- ---- the program
 
+-- the tables of the type and of the plan
 abbrev pub tables_code : Language → Plan → List ℕ
-tables_code l plan = all_names l plan.table ++ places_code l plan ++ judgements_code l plan
+tables_code l plan =
+    table_code l OfType plan.table ++ starts_code l plan ++ places_code l plan
+    ++ judgements_code l plan
 
-unfoldable pub code_text : Language → Plan → List ℕ
-code_text l plan = head_code l plan ++ tables_code l plan ++ program_code l Tournament
+-- the program; in C with marks in the place of names
+unfoldable pub code_text : Language → Plan → Option Served → List ℕ
+code_text l plan object =
+    head_code l plan object ++ tables_code l plan ++ object_tables l object
+    ++ program_code l Tournament object
 
 -- the program in Rust
-abbrev pub rust_text : Plan → List ℕ
-rust_text plan = code_text Rust plan
+abbrev pub rust_text : Plan → Option Served → List ℕ
+rust_text plan object = code_text Rust plan object
 
--- the program in C
-abbrev pub c_text : Plan → List ℕ
-c_text plan = code_text C plan
+-- the program in C, with a prefix or without one
+abbrev pub c_text : Plan → Option Served → Option (List ℕ) → List ℕ
+c_text plan object prefix = named (naming_of prefix) (code_text C plan object)
+
+-- the header of the program in C with a prefix
+abbrev pub header_text : Plan → Option Served → List ℕ → List ℕ
+header_text plan object prefix = named (naming_with prefix) (head_code C plan object)

@@ -1,30 +1,48 @@
 -- What the programs of plans and of plan trees have in common: the parts of a language, and between
 -- them what is of the plan. Names stand in texts and comments alone.
 use Rattle.std.specs.Prelude.{ℕ, zero, suc, List, [], ◌∷◌, ◌++◌, length, codes, decimal, flat_map}
+use Rattle.std.specs.Prelude.{Option, None, Some}
 use Rattle.std.specs.List.{range_with_len}
 use Rattle.cn_table.specs.Names.{name_at}
-use Rattle.cn_table.specs.TypeTable.{TypeTable, operation_names}
+use Rattle.cn_table.specs.TypeTable.{TypeTable, operation_names, transition}
 use Rattle.cn_code.specs.CWords.{c_word}
 use Rattle.cn_code.specs.RustWords.{rust_word}
+use Rattle.cn_code.specs.Served.{Served}
+use Rattle.cn_code.specs.declared.frame.Counts.{Counts}
 use Rattle.cn_code.specs.declared.language.Form.{Form}
+use Rattle.cn_code.specs.declared.language.InterfacePart.TheVariants.{NodeEnd, Status}
+use Rattle.cn_code.specs.declared.language.InterfacePart.TheVariants.{Object as IObject, ObjectEnd, End as IEnd}
 use Rattle.cn_code.specs.declared.language.Language.{Language}
 use Rattle.cn_code.specs.declared.language.Language.TheVariants.{Rust, C}
+use Rattle.cn_code.specs.declared.language.ObjectPart.{ObjectPart}
+use Rattle.cn_code.specs.declared.language.ObjectPart.TheVariants.{About, Full, Start, StartNumber}
+use Rattle.cn_code.specs.declared.language.ObjectPart.TheVariants.{StartEnd, Universal}
+use Rattle.cn_code.specs.declared.language.ObjectPart.TheVariants.{Interface as OInterface}
+use Rattle.cn_code.specs.declared.language.ObjectPart.TheVariants.{States as OStates}
+use Rattle.cn_code.specs.declared.language.ObjectPart.TheVariants.{Operations as OOperations}
+use Rattle.cn_code.specs.declared.language.ObjectPart.TheVariants.{Responses as OResponses}
+use Rattle.cn_code.specs.declared.language.ObjectPart.TheVariants.{Title as OTitle}
+use Rattle.cn_code.specs.declared.language.ObjectPart.TheVariants.{Transitions as OTransitions}
 use Rattle.cn_code.specs.declared.language.OwnPart.{OwnPart}
-use Rattle.cn_code.specs.declared.language.OwnPart.TheVariants.{Meet, Bound, Uses, TypesAbove}
-use Rattle.cn_code.specs.declared.language.OwnPart.TheVariants.{Figure, Read, TypesBelow, Registers}
-use Rattle.cn_code.specs.declared.language.OwnPart.TheVariants.{Objects, Zeros, Index, Judge}
+use Rattle.cn_code.specs.declared.language.OwnPart.TheVariants.{Meet, Bound, Read, Figure, Place}
+use Rattle.cn_code.specs.declared.language.OwnPart.TheVariants.{Judge, CheckOperation}
 use Rattle.cn_code.specs.declared.language.Part.{Part}
-use Rattle.cn_code.specs.declared.language.Part.TheVariants.{Title, TypeName, Intro, Claims}
-use Rattle.cn_code.specs.declared.language.Part.TheVariants.{FirstUses, LastUses, Processes, Nodes}
+use Rattle.cn_code.specs.declared.language.Part.TheVariants.{Title, TypeName, Intro, Claims, Trust}
+use Rattle.cn_code.specs.declared.language.Part.TheVariants.{Uses, Processes, Nodes, Teams, Steps}
 use Rattle.cn_code.specs.declared.language.Part.TheVariants.{States, Operations, Responses, Name}
-use Rattle.cn_code.specs.declared.language.Part.TheVariants.{NameNumber, Places, PlaceLines}
-use Rattle.cn_code.specs.declared.language.Part.TheVariants.{LineEnd, Program, Own}
+use Rattle.cn_code.specs.declared.language.Part.TheVariants.{NameNumber, Transitions, TransitionRow}
+use Rattle.cn_code.specs.declared.language.Part.TheVariants.{TransitionResponse, TransitionNext}
+use Rattle.cn_code.specs.declared.language.Part.TheVariants.{TransitionEnd, TransitionName}
+use Rattle.cn_code.specs.declared.language.Part.TheVariants.{StartState, StartNode, StartName}
+use Rattle.cn_code.specs.declared.language.Part.TheVariants.{Places, PlaceLines, TablesEnd, LineEnd}
+use Rattle.cn_code.specs.declared.language.Part.TheVariants.{Program, Interface, InObject, Own}
 use Rattle.cn_code.specs.declared.language.ProgramPart.{ProgramPart}
-use Rattle.cn_code.specs.declared.language.ProgramPart.TheVariants.{Object, ObjectEnd, Node}
-use Rattle.cn_code.specs.declared.language.ProgramPart.TheVariants.{NodeFields, Consensus, New}
-use Rattle.cn_code.specs.declared.language.ProgramPart.TheVariants.{Decide, Apply, Take, End}
+use Rattle.cn_code.specs.declared.language.ProgramPart.TheVariants.{Object, Node, Take, CheckEnd}
+use Rattle.cn_code.specs.declared.language.ProgramPart.TheVariants.{End, Steps as PSteps}
 use Rattle.cn_code.specs.declared.names.Kind.{Kind}
 use Rattle.cn_code.specs.declared.names.Kind.TheVariants.{State, Operation, Response}
+use Rattle.cn_code.specs.declared.names.Whose.{Whose}
+use Rattle.cn_code.specs.declared.names.Whose.TheVariants.{OfType, OfObject}
 
 -- ---- parts
 
@@ -54,26 +72,45 @@ abbrev pub comma : ℕ → List ℕ
 comma zero = []
 comma (suc k) = codes ", "
 
+-- a text that a program has only if it serves an object
+abbrev pub if_served : Option Served → List ℕ → List ℕ
+if_served None text = []
+if_served (Some served) text = text
+
 -- ---- the head
 
--- what is used of the standard library, and types
-abbrev pub uses_code : Language → Form → List ℕ
-uses_code l form =
-    word l FirstUses ++ own_word l form Uses ++ word l LastUses ++ own_word l form TypesAbove
+-- in the first line, the name of the object that is served
+abbrev pub served_name : Language → Option Served → List ℕ
+served_name l None = []
+served_name l (Some served) = text_code l (InObject OTitle) served.table.name
+
+-- the first line: the number of processes, and the names of the type and of the object
+abbrev pub title_code : Language → List ℕ → ℕ → Option Served → List ℕ
+title_code l name processes object =
+    number_code l Title processes ++ text_code l TypeName name ++ served_name l object
 
 -- what the program is, up to the first constant
-abbrev pub intro_code : Language → Form → List ℕ
-intro_code l form =
-    word l Intro ++ own_word l form Meet ++ word l Claims ++ own_word l form Bound
-    ++ uses_code l form
+abbrev pub intro_code : Language → Form → Option Served → List ℕ
+intro_code l form object =
+    word l Intro ++ own_word l form Meet ++ word l Claims ++ own_word l form Bound ++ word l Trust
+    ++ if_served object (word l (InObject About)) ++ word l Uses
 
--- the name of the type, and the numbers of processes and nodes
-abbrev pub numbers_code : Language → Form → List ℕ → ℕ → ℕ → List ℕ
-numbers_code l form name processes nodes =
-    number_code l Title processes ++ text_code l TypeName name ++ intro_code l form
-    ++ number_code l Processes processes ++ number_code l Nodes nodes
+-- the numbers of processes, of nodes, of teams and of steps
+abbrev pub counts_code : Language → Counts → List ℕ
+counts_code l counts =
+    number_code l Processes counts.processes ++ number_code l Nodes counts.nodes
+    ++ number_code l Teams counts.teams ++ number_code l Steps counts.steps
 
--- ---- names
+-- in C what a header declares
+abbrev pub interface_code : Language → Form → Option Served → List ℕ
+interface_code Rust form object = []
+interface_code C form object =
+    word C (Interface IObject) ++ own_word C form Read ++ word C (Interface ObjectEnd)
+    ++ own_word C form Figure ++ word C (Interface NodeEnd)
+    ++ if_served object (word C (InObject Full)) ++ word C (Interface Status)
+    ++ if_served object (word C (InObject OInterface)) ++ word C (Interface IEnd)
+
+-- ---- names and transitions
 
 -- every name of a type
 abbrev pub names_in : TypeTable → List (List ℕ)
@@ -84,11 +121,25 @@ names_of t State = t.states
 names_of t Operation = operation_names t
 names_of t Response = t.responses
 
--- the part before the names
-abbrev pub part_of : Kind → Part
-part_of State = States
-part_of Operation = Operations
-part_of Response = Responses
+-- the part before the names, of the type and of the object that is served
+abbrev pub type_part : Kind → Part
+type_part State = States
+type_part Operation = Operations
+type_part Response = Responses
+
+abbrev pub object_part : Kind → ObjectPart
+object_part State = OStates
+object_part Operation = OOperations
+object_part Response = OResponses
+
+abbrev pub part_of : Whose → Kind → Part
+part_of OfType kind = type_part kind
+part_of OfObject kind = InObject (object_part kind)
+
+-- the part before the transitions
+abbrev pub transitions_of : Whose → Part
+transitions_of OfType = Transitions
+transitions_of OfObject = InObject OTransitions
 
 -- a name, and its number in a comment
 abbrev pub name_line : Language → List (List ℕ) → ℕ → List ℕ
@@ -98,50 +149,81 @@ name_line l names number =
 abbrev pub name_lines : Language → List (List ℕ) → List ℕ
 name_lines l names = flat_map (name_line l names) (range_with_len 0 (length names))
 
-abbrev pub names_code : Language → TypeTable → Kind → List ℕ
-names_code l t kind = word l (part_of kind) ++ name_lines l (names_of t kind)
+abbrev pub names_code : Language → Whose → TypeTable → Kind → List ℕ
+names_code l whose t kind = word l (part_of whose kind) ++ name_lines l (names_of t kind)
 
 -- the names of the states, of the operations and of the responses
-abbrev pub all_names : Language → TypeTable → List ℕ
-all_names l t = names_code l t State ++ names_code l t Operation ++ names_code l t Response
+abbrev pub all_names : Language → Whose → TypeTable → List ℕ
+all_names l whose t = names_code l whose t State ++ names_code l whose t Operation
+    ++ names_code l whose t Response
 
--- ---- places
+-- the response of an operation in a state, and the next state
+abbrev pub transition_cell : Language → TypeTable → ℕ → ℕ → List ℕ
+transition_cell l t operation state =
+    comma state ++ number_code l TransitionResponse (transition t operation state).0
+    ++ number_code l TransitionNext (transition t operation state).1 ++ word l TransitionEnd
+
+abbrev pub transition_cells : Language → TypeTable → ℕ → List ℕ
+transition_cells l t operation =
+    flat_map (transition_cell l t operation) (range_with_len 0 (length t.states))
+
+-- the transitions of an operation, and in a comment its name
+abbrev pub transition_row : Language → TypeTable → ℕ → List ℕ
+transition_row l t operation =
+    word l TransitionRow ++ transition_cells l t operation
+    ++ text_code l TransitionName (name_at (operation_names t) operation) ++ word l LineEnd
+
+abbrev pub transitions_code : Language → Whose → TypeTable → List ℕ
+transitions_code l whose t =
+    word l (transitions_of whose)
+    ++ flat_map (transition_row l t) (range_with_len 0 (length t.operations))
+
+-- the names and the transitions of a table
+abbrev pub table_code : Language → Whose → TypeTable → List ℕ
+table_code l whose t = all_names l whose t ++ transitions_code l whose t
+
+-- ---- start states and places
+
+-- the state in which the object of a node starts, and in a comment the node and the name of the state
+abbrev pub start_line : Language → TypeTable → ℕ → ℕ → List ℕ
+start_line l t start node =
+    number_code l StartState start ++ number_code l StartNode node
+    ++ text_code l StartName (name_at t.states start) ++ word l LineEnd
 
 -- up to the lines of the places
 abbrev pub places_word : Language → Form → List ℕ
-places_word l form = word l Places ++ own_word l form Figure ++ word l PlaceLines
+places_word l form =
+    own_word l form Place ++ word l Places ++ own_word l form Figure ++ word l PlaceLines
+
+-- ---- the object that is served
+
+-- its names and its transitions, and the state in which it starts
+abbrev pub served_tables : Language → Served → List ℕ
+served_tables l served =
+    table_code l OfObject served.table
+    ++ text_code l (InObject Start) (name_at served.table.states served.start)
+    ++ number_code l (InObject StartNumber) served.start ++ word l (InObject StartEnd)
+
+-- the end of the tables: those of the object, if one is served
+abbrev pub object_tables : Language → Option Served → List ℕ
+object_tables l None = word l TablesEnd
+object_tables l (Some served) = served_tables l served
 
 -- ---- the algorithm
 
--- the object, with the operation to read if some process does, and types
+-- in Rust the object and the node
 abbrev pub object_code : Language → Form → List ℕ
-object_code l form =
-    program_word l Object ++ own_word l form Read ++ program_word l ObjectEnd
-    ++ own_word l form TypesBelow
+object_code Rust form = own_word Rust form Read ++ program_word Rust Node
+    ++ own_word Rust form Figure ++ program_word Rust PSteps
+object_code C form = []
 
--- a node, with its registers
-abbrev pub node_code : Language → Form → List ℕ
-node_code l form =
-    program_word l Node ++ own_word l form Figure ++ program_word l NodeFields
-    ++ own_word l form Registers
-
--- all nodes, and how these start
-abbrev pub new_code : Language → Form → List ℕ
-new_code l form =
-    program_word l Consensus ++ own_word l form Objects ++ program_word l New
-    ++ own_word l form Zeros
-
--- the last step at a place, up to the end of the file
-abbrev pub take_code : Language → Form → List ℕ
-take_code l form = program_word l Take ++ own_word l form Index ++ program_word l End
-
--- the steps of a process
-abbrev pub decide_code : Language → Form → List ℕ
-decide_code l form =
-    program_word l Decide ++ own_word l form Index ++ program_word l Apply
-    ++ own_word l form Judge ++ take_code l form
+-- from the check of an operation to the end of the file
+abbrev pub program_end : Language → Option Served → List ℕ
+program_end l object = program_word l CheckEnd ++ if_served object (word l (InObject Universal))
+    ++ program_word l End
 
 -- the objects, the registers and the algorithm
-abbrev pub program_code : Language → Form → List ℕ
-program_code l form =
-    object_code l form ++ node_code l form ++ new_code l form ++ decide_code l form
+abbrev pub program_code : Language → Form → Option Served → List ℕ
+program_code l form object =
+    program_word l Object ++ object_code l form ++ own_word l form Judge ++ program_word l Take
+    ++ own_word l form CheckOperation ++ program_end l object

@@ -1,9 +1,15 @@
 pub mod CWords
 pub mod Code
 pub mod Frame
+pub mod Keywords
 pub mod LookCWords
 pub mod LookRustWords
+pub mod Naming
+pub mod ObjectCWords
+pub mod ObjectRustWords
+pub mod Prefix
 pub mod RustWords
+pub mod Served
 pub mod TournamentCWords
 pub mod TournamentRustWords
 pub mod TreeCWords

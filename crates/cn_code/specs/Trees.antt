@@ -1,7 +1,7 @@
 -- The program of a plan tree: what all programs have in common, and between its parts what is of the
 -- plan.
 use Rattle.std.specs.Prelude.{ℕ, Bool, true, false, List, ◌++◌, length, codes, decimal, flat_map}
-use Rattle.std.specs.Prelude.{if◌then◌else◌, slice_index_or, []}
+use Rattle.std.specs.Prelude.{if◌then◌else◌, slice_index_or, [], Option}
 use Rattle.std.specs.List.{range_with_len}
 use Rattle.cn_table.specs.Names.{name_at}
 use Rattle.cn_table.specs.TypeTable.{TypeTable, operation_names}
@@ -12,10 +12,14 @@ use Rattle.cn_tree_costs.specs.Cost.{cost, greatest}
 use Rattle.cn_tree_costs.specs.Nodes.{node_at}
 use Rattle.cn_tree_costs.specs.Sizes.{sizes_of}
 use Rattle.cn_tree_plans.specs.Plan.{TreePlan, no_meeting, tree_of}
-use Rattle.cn_code.specs.Frame.{all_names, comma, number_code, numbers_code, own_word, places_word}
-use Rattle.cn_code.specs.Frame.{program_code, text_code, word}
+use Rattle.cn_code.specs.Frame.{comma, counts_code, interface_code, intro_code, number_code}
+use Rattle.cn_code.specs.Frame.{object_tables, own_word, places_word, program_code, start_line}
+use Rattle.cn_code.specs.Frame.{table_code, text_code, title_code, word}
+use Rattle.cn_code.specs.Naming.{named, naming_of, naming_with}
+use Rattle.cn_code.specs.Served.{Served}
 use Rattle.cn_code.specs.TreeJudgements.{columns, judges_of, looks, number_among, seat_of, sight_at}
 use Rattle.cn_code.specs.TreeJudgements.{some_read, some_response, team_first}
+use Rattle.cn_code.specs.declared.frame.Counts.{Counts}
 use Rattle.cn_code.specs.declared.language.Form.{Form}
 use Rattle.cn_code.specs.declared.language.Form.TheVariants.{LookTree, BlindTree}
 use Rattle.cn_code.specs.declared.language.Form.TheVariants.{ResponseTree, MixedTree}
@@ -25,11 +29,11 @@ use Rattle.cn_code.specs.declared.language.OwnPart.TheVariants.{Judgements, Row,
 use Rattle.cn_code.specs.declared.language.Part.TheVariants.{ProcessField, NodeField, TeamField}
 use Rattle.cn_code.specs.declared.language.Part.TheVariants.{OperationField, OperationName}
 use Rattle.cn_code.specs.declared.language.Part.TheVariants.{JudgementStart, JudgementEnd, LineEnd}
-use Rattle.cn_code.specs.declared.language.Part.TheVariants.{InTree, Own}
-use Rattle.cn_code.specs.declared.language.TreePart.TheVariants.{Teams, Steps, Starts, StartState}
-use Rattle.cn_code.specs.declared.language.TreePart.TheVariants.{StartNode, StartName, LooksField}
-use Rattle.cn_code.specs.declared.language.TreePart.TheVariants.{LookField, LookEnd, NoLook, LookName}
-use Rattle.cn_code.specs.declared.language.TreePart.TheVariants.{JudgementField, JudgementNumber}
+use Rattle.cn_code.specs.declared.language.Part.TheVariants.{InTree, Own, Starts}
+use Rattle.cn_code.specs.declared.language.TreePart.TheVariants.{LooksField, LookField, LookEnd}
+use Rattle.cn_code.specs.declared.language.TreePart.TheVariants.{NoLook, LookName, JudgementField}
+use Rattle.cn_code.specs.declared.language.TreePart.TheVariants.{JudgementNumber}
+use Rattle.cn_code.specs.declared.names.Whose.TheVariants.{OfType}
 use Rattle.cn_code.specs.declared.tree.seats.Seat.{Seat}
 
 -- the form of the program of a plan tree
@@ -47,33 +51,35 @@ teams_at plan v = length (sizes_of (node_at plan.teams v).teams)
 abbrev pub most_teams : TreePlan → ℕ
 most_teams plan = greatest (teams_at plan) (nodes_of (tree_of plan))
 
--- the most teams of a node, and the most steps of a process
-abbrev pub bounds_code : Language → TreePlan → List ℕ
-bounds_code l plan =
-    number_code l (InTree Teams) (most_teams plan) ++ number_code l (InTree Steps) (cost (tree_of plan)).steps
+-- the numbers of the program
+abbrev pub tree_counts : TreePlan → Counts
+tree_counts plan = record {
+  processes = processes_of (tree_of plan);
+  nodes = nodes_of (tree_of plan);
+  teams = most_teams plan;
+  steps = (cost (tree_of plan)).steps;
+}
 
--- the type, the numbers of processes and nodes, and the bounds
-abbrev pub tree_head : Language → TreePlan → List ℕ
-tree_head l plan =
-    numbers_code l (form_of plan) plan.table.name (processes_of (tree_of plan))
-    (nodes_of (tree_of plan))
-    ++ bounds_code l plan
+-- up to the tables
+abbrev pub tree_head : Language → TreePlan → Option Served → List ℕ
+tree_head l plan object =
+    title_code l plan.table.name (processes_of (tree_of plan)) object
+    ++ intro_code l (form_of plan) object ++ counts_code l (tree_counts plan)
+    ++ interface_code l (form_of plan) object
 
 -- ---- start states
 
 abbrev pub start_at : TreePlan → ℕ → ℕ
 start_at plan v = (slice_index_or plan.meetings v no_meeting).start
 
--- the state in which the object of node v starts, and in a comment the node and the name of the state
-abbrev pub start_line : Language → TreePlan → ℕ → List ℕ
-start_line l plan v =
-    number_code l (InTree StartState) (start_at plan v) ++ number_code l (InTree StartNode) v
-    ++ text_code l (InTree StartName) (name_at plan.table.states (start_at plan v)) ++ word l LineEnd
+abbrev pub tree_start : Language → TreePlan → ℕ → List ℕ
+tree_start l plan v = start_line l plan.table (start_at plan v) v
 
-abbrev pub starts_code : Language → TreePlan → List ℕ
-starts_code l plan =
-    word l (InTree Starts)
-    ++ flat_map (start_line l plan) (range_with_len 0 (nodes_of (tree_of plan)))
+-- the state in which the object of each node starts
+abbrev pub tree_starts : Language → TreePlan → List ℕ
+tree_starts l plan =
+    word l Starts
+    ++ flat_map (tree_start l plan) (range_with_len 0 (nodes_of (tree_of plan)))
 
 -- ---- places
 
@@ -188,26 +194,36 @@ tree_judgements l plan judges =
 
 -- ---- the program
 
--- the names of the type, and the start states
-abbrev pub tree_names : Language → TreePlan → List ℕ
-tree_names l plan = all_names l plan.table ++ starts_code l plan
+-- the table of the type, and the start states
+abbrev pub tree_type : Language → TreePlan → List ℕ
+tree_type l plan = table_code l OfType plan.table ++ tree_starts l plan
 
--- the places and the judgements, and the algorithm
-abbrev pub tree_tables : Language → TreePlan → List Seat → List ℕ
-tree_tables l plan judges =
-    tree_places l plan judges ++ tree_judgements l plan judges ++ program_code l (form_of plan)
+-- the places and the judgements, the tables of the object, and the algorithm
+abbrev pub tree_tables : Language → TreePlan → Option Served → List Seat → List ℕ
+tree_tables l plan object judges =
+    tree_places l plan judges ++ tree_judgements l plan judges ++ object_tables l object
+    ++ program_code l (form_of plan) object
+
+-- all behind the head
+abbrev pub tree_body : Language → TreePlan → Option Served → List Seat → List ℕ
+tree_body l plan object judges = tree_type l plan ++ tree_tables l plan object judges
 
 -- the program, with these judgements
-abbrev pub text_with : Language → TreePlan → List Seat → List ℕ
-text_with l plan judges = tree_head l plan ++ tree_names l plan ++ tree_tables l plan judges
+abbrev pub text_with : Language → TreePlan → Option Served → List Seat → List ℕ
+text_with l plan object judges = tree_head l plan object ++ tree_body l plan object judges
 
-unfoldable pub tree_text : Language → TreePlan → List ℕ
-tree_text l plan = text_with l plan (judges_of plan)
+-- the program; in C with marks in the place of names
+unfoldable pub tree_text : Language → TreePlan → Option Served → List ℕ
+tree_text l plan object = text_with l plan object (judges_of plan)
 
 -- the program in Rust
-abbrev pub tree_rust_text : TreePlan → List ℕ
-tree_rust_text plan = tree_text Rust plan
+abbrev pub tree_rust_text : TreePlan → Option Served → List ℕ
+tree_rust_text plan object = tree_text Rust plan object
 
--- the program in C
-abbrev pub tree_c_text : TreePlan → List ℕ
-tree_c_text plan = tree_text C plan
+-- the program in C, with a prefix or without one
+abbrev pub tree_c_text : TreePlan → Option Served → Option (List ℕ) → List ℕ
+tree_c_text plan object prefix = named (naming_of prefix) (tree_text C plan object)
+
+-- the header of the program in C with a prefix
+abbrev pub tree_header_text : TreePlan → Option Served → List ℕ → List ℕ
+tree_header_text plan object prefix = named (naming_with prefix) (tree_head C plan object)

@@ -1,52 +1,128 @@
 //! What all programs have in common.
-ghost use Rattle.std.specs.Prelude.{◌≡◌, ◌++◌, OnOk, string_bytes};
-ghost use Rattle.cn_code.specs.Frame.{decide_code, intro_code, new_code, node_code, numbers_code, object_code};
-ghost use Rattle.cn_code.specs.Frame.{places_word, program_code, take_code, uses_code};
+ghost use Rattle.std.specs.Prelude.{◌≡◌, ◌<◌, ◌++◌, OnOk, length, option_copied, string_bytes};
+ghost use Rattle.cn_code.specs.Frame.{counts_code, intro_code, interface_code, object_code};
+ghost use Rattle.cn_code.specs.Frame.{places_word, program_code, program_end, start_line, title_code};
+ghost use Rattle.cn_code.specs.declared.language.Language.TheVariants.{Rust, C};
 
-use crate::language::{Form, Language, OwnPart, Part, ProgramPart};
+use crate::language::{Form, InterfacePart, Language, ObjectPart, OwnPart, Part, ProgramPart};
+use crate::object::{push_if_served, push_served_name};
+use crate::served::Served;
 use crate::words::{push_number, push_own, push_program_word, push_text, push_word};
+use cn_table::{State, Table};
 use std::alloc::AllocError;
 
-/// The name of the type, and the numbers of processes and nodes.
-pub(crate) fn push_numbers(
+/// The numbers of processes and of nodes, the most teams of a node, and the most steps of a process.
+#[derive(Clone, Copy)]
+pub(crate) struct Counts {
+    pub processes: u8,
+    pub nodes: u8,
+    pub teams: u8,
+    pub steps: u8,
+}
+
+/// The first line.
+pub(crate) fn push_title(
     text: &mut String,
     language: Language,
-    form: Form,
     name: &str,
     processes: u8,
-    nodes: u8,
+    object: Option<&Served>,
 ) -> Result<(), AllocError>
-    ensures { OnOk result (string_bytes text.new
-        ≡ string_bytes text.old ++ numbers_code language form name.now processes nodes) }
+    ensures { OnOk result (string_bytes text.new ≡ string_bytes text.old
+        ++ title_code language name.now processes (option_copied object.entry)) }
 {
     push_number(text, language, Part::Title, processes)?;
     push_text(text, language, Part::TypeName, name)?;
-    push_intro(text, language, form)?;
-    push_number(text, language, Part::Processes, processes)?;
-    push_number(text, language, Part::Nodes, nodes)
+    push_served_name(text, language, object)
 }
 
 /// What the program is, up to the first constant.
-fn push_intro(text: &mut String, language: Language, form: Form) -> Result<(), AllocError>
-    ensures { OnOk result (string_bytes text.new
-        ≡ string_bytes text.old ++ intro_code language form) }
+pub(crate) fn push_intro(
+    text: &mut String,
+    language: Language,
+    form: Form,
+    object: Option<&Served>,
+) -> Result<(), AllocError>
+    ensures { OnOk result (string_bytes text.new ≡ string_bytes text.old
+        ++ intro_code language form (option_copied object.entry)) }
 {
     push_word(text, language, Part::Intro)?;
     push_own(text, language, form, OwnPart::Meet)?;
     push_word(text, language, Part::Claims)?;
     push_own(text, language, form, OwnPart::Bound)?;
-    push_uses(text, language, form)
+    push_word(text, language, Part::Trust)?;
+    push_if_served(text, language, object, ObjectPart::About)?;
+    push_word(text, language, Part::Uses)
 }
 
-/// What is used of the standard library, and types.
-fn push_uses(text: &mut String, language: Language, form: Form) -> Result<(), AllocError>
+/// The numbers of processes, of nodes, of teams and of steps.
+pub(crate) fn push_counts(
+    text: &mut String,
+    language: Language,
+    counts: Counts,
+) -> Result<(), AllocError>
     ensures { OnOk result (string_bytes text.new
-        ≡ string_bytes text.old ++ uses_code language form) }
+        ≡ string_bytes text.old ++ counts_code language counts) }
 {
-    push_word(text, language, Part::FirstUses)?;
-    push_own(text, language, form, OwnPart::Uses)?;
-    push_word(text, language, Part::LastUses)?;
-    push_own(text, language, form, OwnPart::TypesAbove)
+    push_number(text, language, Part::Processes, counts.processes)?;
+    push_number(text, language, Part::Nodes, counts.nodes)?;
+    push_number(text, language, Part::Teams, counts.teams)?;
+    push_number(text, language, Part::Steps, counts.steps)
+}
+
+/// What a header declares, in C.
+pub(crate) fn push_interface(
+    text: &mut String,
+    language: Language,
+    form: Form,
+    object: Option<&Served>,
+) -> Result<(), AllocError>
+    ensures { OnOk result (string_bytes text.new ≡ string_bytes text.old
+        ++ interface_code language form (option_copied object.entry)) }
+{
+    match language {
+        Language::Rust => Ok(()),
+        Language::C => push_c_interface(text, form, object),
+    }
+}
+
+fn push_c_interface(
+    text: &mut String,
+    form: Form,
+    object: Option<&Served>,
+) -> Result<(), AllocError>
+    ensures { OnOk result (string_bytes text.new ≡ string_bytes text.old
+        ++ interface_code C form (option_copied object.entry)) }
+{
+    let language = Language::C;
+    push_word(text, language, Part::Interface(InterfacePart::Object))?;
+    push_own(text, language, form, OwnPart::Read)?;
+    push_word(text, language, Part::Interface(InterfacePart::ObjectEnd))?;
+    push_own(text, language, form, OwnPart::Figure)?;
+    push_word(text, language, Part::Interface(InterfacePart::NodeEnd))?;
+    push_if_served(text, language, object, ObjectPart::Full)?;
+    push_word(text, language, Part::Interface(InterfacePart::Status))?;
+    push_if_served(text, language, object, ObjectPart::Interface)?;
+    push_word(text, language, Part::Interface(InterfacePart::End))
+}
+
+/// The state in which the object of a node starts, and in a comment the node and the name of the
+/// state.
+pub(crate) fn push_start_line(
+    text: &mut String,
+    language: Language,
+    table: &Table,
+    start: State,
+    node: u8,
+) -> Result<(), AllocError>
+    requires { start.0 < length table.now.states }
+    ensures { OnOk result (string_bytes text.new
+        ≡ string_bytes text.old ++ start_line language table.now start.0 node) }
+{
+    push_number(text, language, Part::StartState, start.0)?;
+    push_number(text, language, Part::StartNode, node)?;
+    push_text(text, language, Part::StartName, table.state_name(start))?;
+    push_word(text, language, Part::LineEnd)
 }
 
 /// Up to the lines of the places.
@@ -58,6 +134,7 @@ pub(crate) fn push_places_word(
     ensures { OnOk result (string_bytes text.new
         ≡ string_bytes text.old ++ places_word language form) }
 {
+    push_own(text, language, form, OwnPart::Place)?;
     push_word(text, language, Part::Places)?;
     push_own(text, language, form, OwnPart::Figure)?;
     push_word(text, language, Part::PlaceLines)
@@ -68,67 +145,51 @@ pub(crate) fn push_program(
     text: &mut String,
     language: Language,
     form: Form,
+    object: Option<&Served>,
 ) -> Result<(), AllocError>
-    ensures { OnOk result (string_bytes text.new
-        ≡ string_bytes text.old ++ program_code language form) }
+    ensures { OnOk result (string_bytes text.new ≡ string_bytes text.old
+        ++ program_code language form (option_copied object.entry)) }
 {
+    push_program_word(text, language, ProgramPart::Object)?;
     push_object(text, language, form)?;
-    push_node(text, language, form)?;
-    push_new(text, language, form)?;
-    push_decide(text, language, form)
+    push_own(text, language, form, OwnPart::Judge)?;
+    push_program_word(text, language, ProgramPart::Take)?;
+    push_own(text, language, form, OwnPart::CheckOperation)?;
+    push_program_end(text, language, object)
 }
 
-/// The object, with the operation to read if some process does, and types.
+/// The object and the node, in Rust.
 fn push_object(text: &mut String, language: Language, form: Form) -> Result<(), AllocError>
     ensures { OnOk result (string_bytes text.new
         ≡ string_bytes text.old ++ object_code language form) }
 {
-    push_program_word(text, language, ProgramPart::Object)?;
-    push_own(text, language, form, OwnPart::Read)?;
-    push_program_word(text, language, ProgramPart::ObjectEnd)?;
-    push_own(text, language, form, OwnPart::TypesBelow)
+    match language {
+        Language::Rust => push_rust_object(text, form),
+        Language::C => Ok(()),
+    }
 }
 
-/// A node, with its registers.
-fn push_node(text: &mut String, language: Language, form: Form) -> Result<(), AllocError>
+fn push_rust_object(text: &mut String, form: Form) -> Result<(), AllocError>
     ensures { OnOk result (string_bytes text.new
-        ≡ string_bytes text.old ++ node_code language form) }
+        ≡ string_bytes text.old ++ object_code Rust form) }
 {
+    let language = Language::Rust;
+    push_own(text, language, form, OwnPart::Read)?;
     push_program_word(text, language, ProgramPart::Node)?;
     push_own(text, language, form, OwnPart::Figure)?;
-    push_program_word(text, language, ProgramPart::NodeFields)?;
-    push_own(text, language, form, OwnPart::Registers)
+    push_program_word(text, language, ProgramPart::Steps)
 }
 
-/// All nodes, and how these start.
-fn push_new(text: &mut String, language: Language, form: Form) -> Result<(), AllocError>
-    ensures { OnOk result (string_bytes text.new
-        ≡ string_bytes text.old ++ new_code language form) }
+/// From the check of an operation to the end of the file.
+fn push_program_end(
+    text: &mut String,
+    language: Language,
+    object: Option<&Served>,
+) -> Result<(), AllocError>
+    ensures { OnOk result (string_bytes text.new ≡ string_bytes text.old
+        ++ program_end language (option_copied object.entry)) }
 {
-    push_program_word(text, language, ProgramPart::Consensus)?;
-    push_own(text, language, form, OwnPart::Objects)?;
-    push_program_word(text, language, ProgramPart::New)?;
-    push_own(text, language, form, OwnPart::Zeros)
-}
-
-/// The steps of a process.
-fn push_decide(text: &mut String, language: Language, form: Form) -> Result<(), AllocError>
-    ensures { OnOk result (string_bytes text.new
-        ≡ string_bytes text.old ++ decide_code language form) }
-{
-    push_program_word(text, language, ProgramPart::Decide)?;
-    push_own(text, language, form, OwnPart::Index)?;
-    push_program_word(text, language, ProgramPart::Apply)?;
-    push_own(text, language, form, OwnPart::Judge)?;
-    push_take(text, language, form)
-}
-
-/// The last step at a place, up to the end of the file.
-fn push_take(text: &mut String, language: Language, form: Form) -> Result<(), AllocError>
-    ensures { OnOk result (string_bytes text.new
-        ≡ string_bytes text.old ++ take_code language form) }
-{
-    push_program_word(text, language, ProgramPart::Take)?;
-    push_own(text, language, form, OwnPart::Index)?;
+    push_program_word(text, language, ProgramPart::CheckEnd)?;
+    push_if_served(text, language, object, ObjectPart::Universal)?;
     push_program_word(text, language, ProgramPart::End)
 }

@@ -4,10 +4,12 @@ ghost use Rattle.cn_code.specs.Frame.{word};
 
 mod c;
 mod c_looks;
+mod c_object;
 mod c_tournament;
 mod c_tree;
 mod rust;
 mod rust_looks;
+mod rust_object;
 mod rust_tournament;
 mod rust_tree;
 
@@ -36,8 +38,8 @@ pub(crate) enum Form {
     MixedTree,
 }
 
-/// A text of a language that is the same for every plan. Each ends where a text of the plan, or of
-/// the form, begins. Those of all forms stand here in the order of the file.
+/// A text of a language that is the same for every plan. Each ends where a text of the plan, of the
+/// object or of the form begins. Those of all forms stand here in the order of the file.
 #[derive(Clone, Copy)]
 pub(crate) enum Part {
     /// Up to the number of processes, in the first line.
@@ -48,14 +50,18 @@ pub(crate) enum Part {
     Intro,
     /// What holds for all forms, up to the steps of a process.
     Claims,
-    /// What all forms use of the standard library, up to what one form uses.
-    FirstUses,
-    /// The rest of it.
-    LastUses,
+    /// What the file takes for granted.
+    Trust,
+    /// What it uses of the standard library, up to the first constant.
+    Uses,
     /// Up to the number of processes.
     Processes,
     /// Up to the number of nodes.
     Nodes,
+    /// Up to the most teams of a node.
+    Teams,
+    /// Up to the most steps of a process.
+    Steps,
     /// Up to the lines of the states.
     States,
     /// Up to the lines of the operations.
@@ -66,6 +72,26 @@ pub(crate) enum Part {
     Name,
     /// Up to its number.
     NameNumber,
+    /// Up to the lines of the transitions.
+    Transitions,
+    /// In the line of an operation, up to its transitions.
+    TransitionRow,
+    /// In a transition, up to the response.
+    TransitionResponse,
+    /// Up to the next state.
+    TransitionNext,
+    /// Behind it.
+    TransitionEnd,
+    /// Up to the name of the operation.
+    TransitionName,
+    /// Up to the lines of the start states.
+    Starts,
+    /// In the line of a start state, up to its number.
+    StartState,
+    /// Up to the number of the node.
+    StartNode,
+    /// Up to the name of the state.
+    StartName,
     /// Up to the name of the form.
     Places,
     /// Up to the lines of the places.
@@ -84,10 +110,16 @@ pub(crate) enum Part {
     JudgementStart,
     /// Behind its lines.
     JudgementEnd,
+    /// Behind the judgements, if no object is served.
+    TablesEnd,
     /// The end of a line.
     LineEnd,
     /// A text of the objects, the registers and the algorithm.
     Program(ProgramPart),
+    /// A text of the interface, which only C has.
+    Interface(InterfacePart),
+    /// A text of programs that serve an object.
+    InObject(ObjectPart),
     /// A text of tournaments alone.
     InTournament(TournamentPart),
     /// A text of plan trees alone.
@@ -99,35 +131,67 @@ pub(crate) enum Part {
 /// A text of the objects, the registers and the algorithm, in the order of the file.
 #[derive(Clone, Copy)]
 pub(crate) enum ProgramPart {
-    /// The object, up to the operation to read.
+    /// In Rust the object, up to the operation to read; in C up to the judgement.
     Object,
-    /// Its end.
-    ObjectEnd,
-    /// Up to the name of the form.
+    /// In Rust up to the name of the form.
     Node,
-    /// The node, up to the number of its registers.
-    NodeFields,
-    /// Up to the objects that a decision takes.
-    Consensus,
-    /// Up to the registers as they start.
-    New,
-    /// Up to the team as an index.
-    Decide,
-    /// Up to the judgement.
-    Apply,
-    /// Up to the team as an index.
+    /// In Rust up to the judgement.
+    Steps,
+    /// From the last step at a place to the check of an operation.
     Take,
+    /// The rest of the check of objects.
+    CheckEnd,
     /// Up to the end of the file.
     End,
+}
+
+/// A text of the interface in C, in the order of the file.
+#[derive(Clone, Copy)]
+pub(crate) enum InterfacePart {
+    /// The object, up to the operation to read.
+    Object,
+    /// Up to the name of the form.
+    ObjectEnd,
+    /// Up to the statuses of an object that is served.
+    NodeEnd,
+    /// Up to the functions of an object that is served.
+    Status,
+    /// Up to the tables.
+    End,
+}
+
+/// A text of programs that serve an object, in the order of the file.
+#[derive(Clone, Copy)]
+pub(crate) enum ObjectPart {
+    /// In the first line, up to the name of the object.
+    Title,
+    /// What the object does.
+    About,
+    /// In C how a call can end besides.
+    Full,
+    /// In C its interface.
+    Interface,
+    /// Up to the lines of its states.
+    States,
+    /// Up to the lines of its operations.
+    Operations,
+    /// Up to the lines of its responses.
+    Responses,
+    /// Up to the lines of its transitions.
+    Transitions,
+    /// Up to the name of its start state.
+    Start,
+    /// Up to the number of this state.
+    StartNumber,
+    /// Behind it.
+    StartEnd,
+    /// The object.
+    Universal,
 }
 
 /// A text of tournaments alone, in the order of the file.
 #[derive(Clone, Copy)]
 pub(crate) enum TournamentPart {
-    /// Up to the name of the state in which each object starts.
-    Start,
-    /// Up to the number of this state.
-    StartNumber,
     /// In the line of a place, up to its role.
     RoleField,
     /// In the judgements of a role, up to its number.
@@ -141,18 +205,6 @@ pub(crate) enum TournamentPart {
 /// A text of plan trees alone, in the order of the file.
 #[derive(Clone, Copy)]
 pub(crate) enum TreePart {
-    /// Up to the most teams of a node.
-    Teams,
-    /// Up to the most steps of a process.
-    Steps,
-    /// Up to the lines of the start states.
-    Starts,
-    /// In the line of a start state, up to its number.
-    StartState,
-    /// Up to the number of the node.
-    StartNode,
-    /// Up to the name of the state.
-    StartName,
     /// In the line of a place, up to whether the process looks.
     LooksField,
     /// Up to the operation by which it looks.
@@ -169,39 +221,29 @@ pub(crate) enum TreePart {
     JudgementNumber,
 }
 
-/// A text that each form has for itself, in the order of the file.
+/// A text that each form has for itself.
 #[derive(Clone, Copy)]
 pub(crate) enum OwnPart {
     /// How the processes meet.
     Meet,
     /// The steps of a process.
     Bound,
-    /// What the form alone uses of the standard library.
-    Uses,
-    /// The types that stand above the tables.
-    TypesAbove,
+    /// The operation to read, if some process does.
+    Read,
     /// The name of the form.
     Figure,
+    /// The type of a place.
+    Place,
     /// Up to the judgements.
     Judgements,
     /// In the line of a response, up to the teams.
     Row,
     /// Up to the name of the response.
     ResponseName,
-    /// The operation to read, if some process does.
-    Read,
-    /// The types that stand below the tables.
-    TypesBelow,
-    /// The number of registers of a node.
-    Registers,
-    /// The objects that a decision takes.
-    Objects,
-    /// The registers of a node, as they start.
-    Zeros,
-    /// Behind a team, so that it is an index.
-    Index,
     /// From the response to the team that came first.
     Judge,
+    /// The check of an operation of objects.
+    CheckOperation,
 }
 
 impl Language {

@@ -6,6 +6,7 @@ ghost use Rattle.std.specs.List.{list_all};
 ghost use Rattle.cn_table.specs.Names.{is_name};
 ghost use Rattle.cn_code.specs.Frame.{names_in};
 
+use crate::served::Served;
 use cn_proto::Plan;
 use cn_table::Table;
 use cn_tree_plans::TreePlan;
@@ -25,6 +26,14 @@ pub fn tree_names_are_plain(plan: &TreePlan)
     ensures { IsTrue (list_all is_name (names_in plan.now.table)) }
 {
     names_of_tables_are_plain(plan.table());
+}
+
+/// The same of the object that a program serves.
+pub fn served_names_are_plain(object: &Served)
+    // promise: programs-of-a-plan (names_in, is_name)
+    ensures { IsTrue (list_all is_name (names_in object.now.table)) }
+{
+    names_of_tables_are_plain(object.table());
 }
 
 fn names_of_tables_are_plain(table: &Table)

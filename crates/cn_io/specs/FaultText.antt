@@ -40,6 +40,7 @@ argument_text argument.Capacity = codes "CAPACITY"
 argument_text argument.Events = codes "EVENTS"
 argument_text argument.Calls = codes "CALLS"
 argument_text argument.Processes = codes "PROCESSES"
+argument_text argument.Prefix = codes "PREFIX"
 
 abbrev pub source_text : Source → List ℕ
 source_text source.Table = codes "table"

@@ -85,6 +85,8 @@ argument_hint argument.Events =
 argument_hint argument.Calls =
     codes "CALLS has operations of the object for each process, such as inc,inc/none for two"
 argument_hint argument.Processes = codes "the number of processes is from 2 to 8"
+argument_hint argument.Prefix =
+    codes "a prefix is 1 to 32 letters, digits or _, the first no digit, and no word of C or C++"
 
 -- how long a text may be
 abbrev pub size_hint : Source → List ℕ

@@ -50,6 +50,8 @@ pub enum Argument {
     Calls,
     /// How many processes there are.
     Processes,
+    /// What the names of a program in C begin with.
+    Prefix,
 }
 
 /// Why a command wrote nothing, or could not write.
@@ -148,6 +150,7 @@ impl Argument {
             Argument::Events => "EVENTS",
             Argument::Calls => "CALLS",
             Argument::Processes => "PROCESSES",
+            Argument::Prefix => "PREFIX",
         }
     }
 }

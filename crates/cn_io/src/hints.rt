@@ -76,6 +76,9 @@ fn argument_hint(argument: &Argument) -> &'static str
             "CALLS has operations of the object for each process, such as inc,inc/none for two"
         }
         Argument::Processes => "the number of processes is from 2 to 8",
+        Argument::Prefix => {
+            "a prefix is 1 to 32 letters, digits or _, the first no digit, and no word of C or C++"
+        }
     }
 }
 

@@ -11,7 +11,6 @@ use Rattle.clap.specs.declared.parser.matches.Found.{Found}
 use Rattle.clap.proofs.WalkLemmas.{one_text-rows, raw_values-rows}
 use Rattle.cn_form.specs.declared.answer_form.DocumentForm.{DocumentForm}
 use Rattle.cn_form.specs.declared.answer_form.DocumentForm.TheVariants as document
-use Rattle.cn_form.specs.declared.plan_form.PlanForm.{PlanForm}
 use Rattle.cn_form.specs.declared.answer_form.AnswerForm.{AnswerForm}
 use Rattle.cn_form.specs.declared.answer_form.AnswerForm.TheVariants as answer
 use Rattle.cn_words.specs.declared.commands.Command.{Command}
@@ -20,8 +19,9 @@ use Rattle.cn_words.specs.declared.commands.Invocation.{Invocation}
 use Rattle.cn_words.specs.declared.commands.Invocation.TheVariants.{Classify, Lives, OfTable, RecoverablePlan, ShortestPlan, ShortestRun}
 use Rattle.cn_words.specs.declared.commands.OpeningWords.{OpeningWords}
 use Rattle.cn_words.specs.declared.commands.TextSource.{TextSource}
+use Rattle.cn_words.specs.declared.plan_words.PlanWords.{PlanWords}
 use Rattle.cn_words.specs.declared.without_certificate.RunWords.{RunWords}
-use Rattle.cn_words.specs.GivenCommands.{Finds, HasAnswerForm, HasCertificate, HasDocumentForm, HasFlag, HasForm, HasLimit, HasNumber, HasOpening, HasOptionalNumber, HasPlanTable, HasRun, HasRunTable, HasTables, HasWord, IsByte, IsInvocation, IsNamed, asks_for_shortest, excludes_certificate, is_flag_set, is_limit_excluded, is_number_twofold, is_of_plan, path_in, path_of}
+use Rattle.cn_words.specs.GivenCommands.{Finds, HasAnswerForm, HasCertificate, HasDocumentForm, HasFlag, HasLimit, HasNumber, HasOpening, HasOptionalNumber, HasPlanTable, HasPlanWords, HasRun, HasRunTable, HasTables, HasWord, IsByte, IsInvocation, IsNamed, asks_for_shortest, excludes_certificate, is_flag_set, is_limit_excluded, is_number_twofold, is_of_plan, is_of_program, path_in, path_of}
 
 -- two views of an optional value make their pair
 pub pair_of : {A B C : Type 0} (f : A → B) (g : A → C) (o : Option A) (q : Option (B × C)) → option_map f o ≡ option_map (λ p. p.0) q
@@ -143,7 +143,7 @@ Wants name rows =
     (WantsWhy rows (is_flag_set (codes "stocks") rows) (is_flag_set (codes "without-read") rows) (is_flag_set (codes "recoverable") rows))
     (MatchBool (bytes_eq name (codes "pairs")) ((form : DocumentForm) × HasDocumentForm rows form)
     (MatchBool (bytes_eq name (codes "changes")) (((form : DocumentForm) × HasDocumentForm rows form) × (is_number_twofold rows ≡ false))
-    (MatchBool (bytes_eq name (codes "show")) (((w : TextSource) × HasCertificate rows w) × ((plan : PlanForm) × HasForm rows plan) × (excludes_certificate rows ≡ false))
+    (MatchBool (bytes_eq name (codes "show")) (((w : TextSource) × HasCertificate rows w) × ((words : PlanWords) × HasPlanWords rows words) × (excludes_certificate rows ≡ false))
     (MatchBool (bytes_eq name (codes "agree"))
     (((w : TextSource) × HasCertificate rows w) × ((l : Bor Text) × HasWord (codes "INPUTS") rows l.now) × ((l : Bor Text) × HasWord (codes "SCHEDULE") rows l.now)
     × ((form : AnswerForm) × HasAnswerForm rows form) × (excludes_certificate rows ≡ false))
@@ -226,7 +226,7 @@ wants name rows (WhyStocks limit all) h =
     subst (λ n. Wants n rows) (sym h.0) (tells_stocks rows _ _ _ h.1.5 (h.1.4, h.1.3, (limit, h.1.0), h.1.2))
 wants name rows (Pairs form) h = subst (λ n. Wants n rows) (sym h.0) (form, h.1)
 wants name rows (Changes recoverable without_read pairs form) h = subst (λ n. Wants n rows) (sym h.0) ((form, h.1.3), h.1.4)
-wants name rows (Show certificate plan) h = subst (λ n. Wants n rows) (sym h.0) ((certificate, h.1.0), (plan, h.1.1), h.1.2)
+wants name rows (Show certificate words) h = subst (λ n. Wants n rows) (sym h.0) ((certificate, h.1.0), (words, h.1.1), h.1.2)
 wants name rows (Agree certificate inputs schedule steps form) h =
     subst (λ n. Wants n rows) (sym h.0) ((certificate, h.1.0), (inputs, h.1.1), (schedule, h.1.2), (form, h.1.4), h.1.5)
 wants name rows (Replay opening events form) h = subst (λ n. Wants n rows) (sym h.0) ((opening, h.1.0), (events, h.1.1), (form, h.1.2))
@@ -240,7 +240,7 @@ classify_wants rows (Classify limit recoverable without_read form tables) h = (h
 classify_wants rows (OfTable table command) h = absurd (wants (codes "classify") rows command h.arguments)
 classify_wants rows (Lives table words) h = absurd (subst (λ n. MatchBool (bytes_eq n (codes "classify")) (Unit {0}) ⊥) h.0 tt)
 classify_wants rows (ShortestRun table without_read words) h = absurd (subst (λ n. MatchBool (bytes_eq n (codes "classify")) (Unit {0}) ⊥) h.0 tt)
-classify_wants rows (ShortestPlan table without_read processes form) h = absurd (subst (λ n. MatchBool (bytes_eq n (codes "classify")) (Unit {0}) ⊥) h.0 tt)
+classify_wants rows (ShortestPlan table without_read processes words) h = absurd (subst (λ n. MatchBool (bytes_eq n (codes "classify")) (Unit {0}) ⊥) h.0 tt)
 classify_wants rows (RecoverablePlan table processes form) h = absurd (subst (λ n. MatchBool (bytes_eq n (codes "classify")) (Unit {0}) ⊥) h.0 tt)
 
 -- what `agree --recoverable` requires of its words
@@ -255,7 +255,7 @@ lives_wants rows (OfTable table command) flag h =
     go false d e h = cc
 lives_wants rows (Lives table words) flag h = (h.2, (table, h.3), (words, h.4))
 lives_wants rows (ShortestRun table without_read words) flag h = let bad : true ≡ false = sym flag ∙ h.2 in cc
-lives_wants rows (ShortestPlan table without_read processes form) flag h = absurd (subst (λ n. MatchBool (bytes_eq n (codes "agree")) (Unit {0}) ⊥) h.0 tt)
+lives_wants rows (ShortestPlan table without_read processes words) flag h = absurd (subst (λ n. MatchBool (bytes_eq n (codes "agree")) (Unit {0}) ⊥) h.0 tt)
 lives_wants rows (RecoverablePlan table processes form) flag h = absurd (subst (λ n. MatchBool (bytes_eq n (codes "agree")) (Unit {0}) ⊥) h.0 tt)
 
 -- a flag that excludes a certificate is not there beside one
@@ -272,24 +272,24 @@ run_wants rows (OfTable table command) flag h =
     absurd (not_beside _ (asks_for_shortest rows) _ flag (wants (codes "agree") rows command h.arguments).4)
 run_wants rows (Lives table words) flag h = let bad : true ≡ false = sym flag ∙ h.2 in cc
 run_wants rows (ShortestRun table without_read words) flag h = ((table, h.4), (words, h.5))
-run_wants rows (ShortestPlan table without_read processes form) flag h = absurd (subst (λ n. MatchBool (bytes_eq n (codes "agree")) (Unit {0}) ⊥) h.0 tt)
+run_wants rows (ShortestPlan table without_read processes words) flag h = absurd (subst (λ n. MatchBool (bytes_eq n (codes "agree")) (Unit {0}) ⊥) h.0 tt)
 run_wants rows (RecoverablePlan table processes form) flag h = absurd (subst (λ n. MatchBool (bytes_eq n (codes "agree")) (Unit {0}) ⊥) h.0 tt)
 
 -- what `show` requires of the words for a shortest plan
 pub plan_wants : (rows : List Row) (i : Invocation) → asks_for_shortest rows ≡ true → IsInvocation (codes "show") rows i
-    → ((t : TextSource) × HasPlanTable rows t) × ((n : Option ℕ) × HasOptionalNumber (codes "processes") rows n) × ((form : PlanForm) × HasForm rows form)
+    → ((t : TextSource) × HasPlanTable rows t) × ((n : Option ℕ) × HasOptionalNumber (codes "processes") rows n) × ((words : PlanWords) × HasPlanWords rows words)
 plan_wants rows (Classify limit recoverable without_read form tables) flag h = absurd (subst (λ n. MatchBool (bytes_eq n (codes "show")) (Unit {0}) ⊥) h.0 tt)
 plan_wants rows (OfTable table command) flag h =
     absurd (not_beside _ (asks_for_shortest rows) _ flag (wants (codes "show") rows command h.arguments).2)
 plan_wants rows (Lives table words) flag h = absurd (subst (λ n. MatchBool (bytes_eq n (codes "show")) (Unit {0}) ⊥) h.0 tt)
 plan_wants rows (ShortestRun table without_read words) flag h = absurd (subst (λ n. MatchBool (bytes_eq n (codes "show")) (Unit {0}) ⊥) h.0 tt)
-plan_wants rows (ShortestPlan table without_read processes form) flag h = ((table, h.4), (processes, h.5), (form, h.6))
+plan_wants rows (ShortestPlan table without_read processes words) flag h = ((table, h.4), (processes, h.5), (words, h.6))
 plan_wants rows (RecoverablePlan table processes form) flag h = let bad : true ≡ false = sym flag ∙ h.2 in cc
 
 -- what `show --recoverable` requires of its words
 pub recoverable_wants : (rows : List Row) (i : Invocation) → is_flag_set (codes "recoverable") rows ≡ true → IsInvocation (codes "show") rows i
-    → (asks_for_shortest rows ≡ false) × ((t : TextSource) × HasPlanTable rows t) × ((n : Option ℕ) × HasOptionalNumber (codes "processes") rows n)
-    × ((form : AnswerForm) × HasAnswerForm rows form)
+    → (asks_for_shortest rows ≡ false) × (is_of_program rows ≡ false) × ((t : TextSource) × HasPlanTable rows t)
+    × ((n : Option ℕ) × HasOptionalNumber (codes "processes") rows n) × ((form : AnswerForm) × HasAnswerForm rows form)
 recoverable_wants rows (Classify limit recoverable without_read form tables) flag h = absurd (subst (λ n. MatchBool (bytes_eq n (codes "show")) (Unit {0}) ⊥) h.0 tt)
 recoverable_wants rows (OfTable table command) flag h =
     absurd (go (is_flag_set (codes "recoverable") rows) _ flag (wants (codes "show") rows command h.arguments).2)
@@ -299,5 +299,5 @@ recoverable_wants rows (OfTable table command) flag h =
     go false d e h = cc
 recoverable_wants rows (Lives table words) flag h = absurd (subst (λ n. MatchBool (bytes_eq n (codes "show")) (Unit {0}) ⊥) h.0 tt)
 recoverable_wants rows (ShortestRun table without_read words) flag h = absurd (subst (λ n. MatchBool (bytes_eq n (codes "show")) (Unit {0}) ⊥) h.0 tt)
-recoverable_wants rows (ShortestPlan table without_read processes form) flag h = let bad : true ≡ false = sym flag ∙ h.2 in cc
-recoverable_wants rows (RecoverablePlan table processes form) flag h = (h.2, (table, h.3), (processes, h.4), (form, h.5))
+recoverable_wants rows (ShortestPlan table without_read processes words) flag h = let bad : true ≡ false = sym flag ∙ h.2 in cc
+recoverable_wants rows (RecoverablePlan table processes form) flag h = (h.2, h.3, (table, h.4), (processes, h.5), (form, h.6))

@@ -65,7 +65,7 @@ flag id = record (new_rule id) { long = Some id; action = Some SetTrue }
 -- the words for the forms of a plan
 abbrev pub plan_forms : List Text
 plan_forms = codes "text" ∷ codes "json" ∷ codes "dot" ∷ codes "promela" ∷ codes "rust" ∷ codes "c"
-    ∷ []
+    ∷ codes "h" ∷ []
 
 -- the words for the forms of an answer
 abbrev pub answer_forms : List Text
@@ -160,8 +160,9 @@ changes_words forms = command_with (codes "changes")
 abbrev pub show_words : ValueParser → Shape
 show_words forms = command_with (codes "show")
     (optional_certificate_word ∷ flag (codes "recoverable") ∷ flag (codes "shortest")
-    ∷ flag (codes "without-read") ∷ processes_option ∷ form_option forms ∷ table_option
-    ∷ file_word ∷ [])
+    ∷ flag (codes "without-read") ∷ processes_option ∷ form_option forms
+    ∷ value_option (codes "object") ∷ value_option (codes "start") ∷ value_option (codes "prefix")
+    ∷ table_option ∷ file_word ∷ [])
 
 abbrev pub draw_words : Shape
 draw_words = command_with (codes "draw") (table_option ∷ file_word ∷ [])

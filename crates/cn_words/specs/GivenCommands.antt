@@ -33,6 +33,10 @@ use Rattle.cn_words.specs.declared.commands.Invocation.TheVariants.{RecoverableP
 use Rattle.cn_words.specs.declared.commands.Invocation.TheVariants.{ShortestRun}
 use Rattle.cn_words.specs.declared.commands.OpeningWords.{OpeningWords}
 use Rattle.cn_words.specs.declared.commands.TextSource.{TextSource}
+use Rattle.cn_words.specs.declared.plan_words.ObjectWords.{ObjectWords}
+use Rattle.cn_words.specs.declared.plan_words.PlanWords.{PlanWords}
+use Rattle.cn_words.specs.declared.plan_words.StyleWords.{StyleWords}
+use Rattle.cn_words.specs.declared.plan_words.StyleWords.TheVariants as style
 use Rattle.cn_words.specs.declared.without_certificate.RunWords.{RunWords}
 use Rattle.cn_words.specs.declared.commands.TextSource.TheVariants as source
 
@@ -148,6 +152,39 @@ HasOpening rows opening = HasCertificate rows opening.certificate
     × HasWord (codes "START") rows opening.start.now
     × HasWord (codes "CAPACITY") rows opening.capacity.now
 
+-- ---- how a plan is written
+
+-- a form without a prefix, or a program in C or its header, with one
+abbrev pub HasStyle : List Row → StyleWords → Type 0
+HasStyle rows (style.Plain form) = HasForm rows form × (first_of (codes "prefix") rows ≡ None)
+HasStyle rows (style.ExternalC prefix) =
+    HasWord (codes "as") rows (codes "c") × HasWord (codes "prefix") rows prefix.now
+HasStyle rows (style.Header prefix) =
+    HasWord (codes "as") rows (codes "h") × HasWord (codes "prefix") rows prefix.now
+
+-- whether the form is a program
+abbrev pub is_program_word : Text → Bool
+is_program_word w =
+    bytes_eq w (codes "rust") || (bytes_eq w (codes "c") || bytes_eq w (codes "h"))
+
+abbrev pub names_program : List Row → Bool
+names_program rows = option_map_or is_program_word (first_of (codes "as") rows) false
+
+-- both words for an object, beside a program; or neither
+abbrev pub HasObject : List Row → Option ObjectWords → Type 0
+HasObject rows None =
+    (first_of (codes "object") rows ≡ None) × (first_of (codes "start") rows ≡ None)
+HasObject rows (Some words) = HasWord (codes "object") rows words.object.now
+    × HasWord (codes "start") rows words.start.now × (names_program rows ≡ true)
+
+abbrev pub HasPlanWords : List Row → PlanWords → Type 0
+HasPlanWords rows words = HasStyle rows words.style × HasObject rows words.object
+
+-- whether a word is there that only a program has
+abbrev pub is_of_program : List Row → Bool
+is_of_program rows = is_some (first_of (codes "object") rows)
+    || (is_some (first_of (codes "start") rows) || is_some (first_of (codes "prefix") rows))
+
 -- ---- plans without a certificate
 
 -- each argument of a run is what its word says
@@ -221,7 +258,7 @@ name_of (WhyUnread all form) = codes "why"
 name_of (WhyStocks limit all) = codes "why"
 name_of (Pairs form) = codes "pairs"
 name_of (Changes recoverable without_read pairs form) = codes "changes"
-name_of (Show certificate plan) = codes "show"
+name_of (Show certificate words) = codes "show"
 name_of (Agree certificate inputs schedule steps form) = codes "agree"
 name_of (Replay opening events form) = codes "replay"
 name_of (Serve opening calls form) = codes "serve"
@@ -295,8 +332,8 @@ HasArguments rows (Changes recoverable without_read pairs form) =
     × (without_read ≡ is_flag_set (codes "without-read") rows)
     × (pairs ≡ is_flag_set (codes "pairs") rows) × HasDocumentForm rows form
     × (is_number_twofold rows ≡ false)
-HasArguments rows (Show certificate plan) =
-    HasCertificate rows certificate × HasForm rows plan × (excludes_certificate rows ≡ false)
+HasArguments rows (Show certificate words) = HasCertificate rows certificate
+    × HasPlanWords rows words × (excludes_certificate rows ≡ false)
 HasArguments rows (Agree certificate inputs schedule steps form) =
     HasCertificate rows certificate × HasWord (codes "INPUTS") rows inputs.now
     × HasWord (codes "SCHEDULE") rows schedule.now × HasFlag (codes "steps") rows steps
@@ -334,13 +371,13 @@ IsInvocation name rows (ShortestRun table without_read words) = (name ≡ codes 
     × (asks_for_shortest rows ≡ true) × (is_flag_set (codes "recoverable") rows ≡ false)
     × (without_read ≡ is_flag_set (codes "without-read") rows) × HasRunTable rows table
     × HasRun rows words
-IsInvocation name rows (ShortestPlan table without_read processes form) = (name ≡ codes "show")
+IsInvocation name rows (ShortestPlan table without_read processes words) = (name ≡ codes "show")
     × (asks_for_shortest rows ≡ true) × (is_flag_set (codes "recoverable") rows ≡ false)
     × (without_read ≡ is_flag_set (codes "without-read") rows) × HasPlanTable rows table
-    × HasOptionalNumber (codes "processes") rows processes × HasForm rows form
+    × HasOptionalNumber (codes "processes") rows processes × HasPlanWords rows words
 IsInvocation name rows (RecoverablePlan table processes form) = (name ≡ codes "show")
     × (is_flag_set (codes "recoverable") rows ≡ true)
-    × (asks_for_shortest rows ≡ false) × HasPlanTable rows table
+    × (asks_for_shortest rows ≡ false) × (is_of_program rows ≡ false) × HasPlanTable rows table
     × HasOptionalNumber (codes "processes") rows processes × HasAnswerForm rows form
 
 -- the invocation of the parsed command, by the words behind its name

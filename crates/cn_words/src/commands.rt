@@ -2,17 +2,18 @@
 ghost use Rattle.std.specs.Prelude.{◌≡◌, IfOk, MatchResult, codes, false, map, option_map, true};
 ghost use Rattle.clap.specs.Simple.{subcommand_rows_of};
 ghost use Rattle.clap.specs.Walk.{first_of};
-ghost use Rattle.cn_words.specs.GivenCommands.{Finds, HasAnswerForm, HasCertificate, HasDocumentForm, HasForm, HasLimit, HasNumber, HasOpening, HasOptionalNumber, HasTable, HasTables, HasWord, IsInvocation, IsInvocationOf, IsNamed, RefusesCommand, asks_for_shortest, is_flag_set, is_input, is_input_shared, is_limit_excluded, is_number_twofold, is_of_plan, is_table_twice, path_in, path_of, rows_in, table_in};
+ghost use Rattle.cn_words.specs.GivenCommands.{Finds, HasAnswerForm, HasCertificate, HasDocumentForm, HasLimit, HasNumber, HasOpening, HasOptionalNumber, HasTable, HasTables, HasWord, IsInvocation, IsInvocationOf, IsNamed, RefusesCommand, asks_for_shortest, is_flag_set, is_input, is_input_shared, is_limit_excluded, is_number_twofold, is_of_plan, is_table_twice, path_in, path_of, rows_in, table_in};
 ghost use Rattle.cn_words.specs.declared.commands.CommandFault.TheVariants.{OutOfMemory};
 
 use crate::plan_certificates::{check_shortest, find_shortest};
+use crate::plan_words::{PlanWords, plan_words};
 use crate::stock_certificates::{check_stocks, explain_stocks, find_stocks, why_stocks};
 use crate::without_certificate::{
     RunWords, asks_for_shortest, excludes_certificate, is_flag_set, is_of_plan, plan_table,
     recoverable_plan, run_table, run_words,
 };
 use clap::ArgMatches;
-use cn_form::{AnswerForm, DocumentForm, PlanForm};
+use cn_form::{AnswerForm, DocumentForm};
 use std::alloc::{AllocError, Global};
 
 /// Where a table or a certificate is read from.
@@ -160,8 +161,8 @@ pub enum Command<'a> {
     Show {
         /// The certificate.
         certificate: TextSource<'a>,
-        /// The form of the plan.
-        form: PlanForm,
+        /// How the plan is written.
+        words: PlanWords<'a>,
     },
     /// Runs the plan by a schedule.
     Agree {
@@ -243,8 +244,8 @@ pub enum Invocation<'a> {
         without_read: bool,
         /// How many processes there are, if a number was given.
         processes: Option<u8>,
-        /// The form of the plan.
-        form: PlanForm,
+        /// How the plan is written.
+        words: PlanWords<'a>,
     },
     /// Writes the plan of the first recording witness.
     RecoverablePlan {
@@ -328,20 +329,6 @@ pub(crate) fn certificate<'a>(words: &ArgMatches<'a>) -> Option<TextSource<'a>>
     ensures { Finds (HasCertificate (rows_in words.now)) result }
 {
     Some(TextSource::of(word(words, "CERT")?))
-}
-
-fn form(words: &ArgMatches<'_>) -> Option<PlanForm>
-    ensures { Finds (HasForm (rows_in words.now)) result }
-{
-    match word(words, "as")? {
-        "text" => Some(PlanForm::Text),
-        "json" => Some(PlanForm::Json),
-        "dot" => Some(PlanForm::Dot),
-        "promela" => Some(PlanForm::Promela),
-        "rust" => Some(PlanForm::Rust),
-        "c" => Some(PlanForm::C),
-        _ => None,
-    }
 }
 
 pub(crate) fn answer_form(words: &ArgMatches<'_>) -> Option<AnswerForm>
@@ -608,7 +595,7 @@ fn show<'a>(words: &ArgMatches<'a>) -> Option<Command<'a>>
     }
     Some(Command::Show {
         certificate: certificate(words)?,
-        form: form(words)?,
+        words: plan_words(words)?,
     })
 }
 
@@ -749,7 +736,7 @@ fn shortest_plan<'a>(words: &ArgMatches<'a>) -> Option<Invocation<'a>>
         table: plan_table(words)?,
         without_read: is_flag_set(words, "without-read"),
         processes: optional_number(words, "processes")?,
-        form: form(words)?,
+        words: plan_words(words)?,
     })
 }
 
@@ -801,14 +788,16 @@ fn command_met<'m, 'a>(matches: &'m ArgMatches<'a>) -> Option<(&'a str, &'m ArgM
 /// # Errors
 ///
 /// `Words` if there is no command, a word is missing or too many, a number is none of one byte, the
-/// form is unknown, two words say where the table is, two words exclude each other, or standard input
-/// would be both the table and the certificate; `OutOfMemory` for want of memory.
+/// form is unknown, two words say where the table is, two words exclude each other, an object or a
+/// prefix does not fit the form, or standard input would be both the table and the certificate;
+/// `OutOfMemory` for want of memory.
 pub fn invocation_of<'a>(
     alloc: Global,
     matches: &ArgMatches<'a>,
 ) -> Result<Invocation<'a>, CommandFault>
     // promise: command-of-words (IsInvocationOf: IsInvocation, HasRun, HasRunTable, HasPlanTable,
-    //     IsOfTable: arguments, source, once, input; RefusesCommand)
+    //     HasPlanWords: HasStyle, HasObject; IsOfTable: arguments, source, once, input;
+    //     RefusesCommand)
     ensures { MatchResult result (IsInvocationOf matches.now)
         (RefusesCommand (IsInvocationOf matches.now)) }
 {

@@ -16,12 +16,14 @@
 
 mod commands;
 mod plan_certificates;
+mod plan_words;
 mod replies;
 mod stock_certificates;
 mod without_certificate;
 mod words;
 
 pub use commands::{Command, CommandFault, Invocation, OpeningWords, TextSource, invocation_of};
+pub use plan_words::{ObjectWords, PlanWords, StyleWords};
 pub use replies::{Reply, parse};
 pub use without_certificate::RunWords;
 pub use words::command;

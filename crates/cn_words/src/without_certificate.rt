@@ -7,6 +7,7 @@ ghost use Rattle.cn_words.specs.GivenCommands.{asks_for_shortest, excludes_certi
 use crate::commands::{
     Invocation, TextSource, answer_form, list, optional_number, table_word, word,
 };
+use crate::plan_words::is_of_program;
 use clap::ArgMatches;
 use cn_form::AnswerForm;
 
@@ -103,6 +104,9 @@ pub(crate) fn recoverable_plan<'a>(words: &ArgMatches<'a>) -> Option<Invocation<
     ensures { Finds (IsInvocation (codes "show") (rows_in words.now)) result }
 {
     if asks_for_shortest(words) {
+        return None;
+    }
+    if is_of_program(words) {
         return None;
     }
     let table = plan_table(words)?;

@@ -313,7 +313,16 @@ processes.
 With --as json this is one JSON object; with --as dot, the tournament as a picture in the language
 DOT, for Graphviz; with --as promela, a model in Promela, in which the model checker spin finds that
 all decisions are equal, are the value of a process that has moved, and come in time; with --as rust
-and --as c, a file of source code by which threads agree over an object of the type.
+and --as c, a file of source code by which threads agree over objects of the type.
+
+With --object OBJECT --start STATE, beside --as rust, c or h, the source code also has an object that
+the processes share without waiting for each other: that of the table in the file OBJECT, which starts
+in the state STATE. Every call gets the response that it has in one sequential run of all calls.
+
+With --prefix NAME, beside --as c or h, the names in the source code begin with NAME in place of
+consensus, and other files can use them; without it they are static. --as h writes the header of the
+file that --as c writes with the same prefix. NAME is 1 to 32 letters, digits or underscores, the
+first no digit, and no word of C or C++.
 
 With --shortest writes the shortest plan in place of it: show --shortest FILE. The type is in FILE,
 or on standard input or behind --table, and there is no certificate. The plan is for N processes, or
@@ -345,7 +354,7 @@ writes five lines, the last of which is process 1: node 0 B role 1."
 );
 
 /// The forms in which `show` writes a plan.
-const PLAN_FORMS: [&str; 6] = ["text", "json", "dot", "promela", "rust", "c"];
+const PLAN_FORMS: [&str; 7] = ["text", "json", "dot", "promela", "rust", "c", "h"];
 
 const DRAW_ABOUT: &str = "Draws the states of the type";
 
@@ -726,6 +735,9 @@ fn show<'a>(alloc: Global) -> Result<Command<'a>, AllocError>
     let shortest = "Writes the shortest plan, with no certificate: CERT is the table";
     let without_read = "Writes the shortest plan of which no process reads";
     let help = "The form in which the plan is written";
+    let object = "The file that holds the table of an object, which the program then has too";
+    let start = "The state in which the object starts";
+    let prefix = "What stands in the names of a program in C, in place of consensus";
     let command = bare_command(alloc, "show", SHOW_ABOUT, SHOW_AFTER);
     let command = with_argument(Ok(command), optional_certificate(alloc));
     let command = with_argument(command, flag(alloc, "recoverable", recoverable));
@@ -733,6 +745,9 @@ fn show<'a>(alloc: Global) -> Result<Command<'a>, AllocError>
     let command = with_argument(command, flag(alloc, "without-read", without_read));
     let command = with_argument(command, processes(alloc));
     let command = with_argument(command, form(alloc, &PLAN_FORMS, help));
+    let command = with_argument(command, value_option(alloc, "object", "OBJECT", object));
+    let command = with_argument(command, value_option(alloc, "start", "STATE", start));
+    let command = with_argument(command, value_option(alloc, "prefix", "NAME", prefix));
     with_table(alloc, command)
 }
 

@@ -5,4 +5,5 @@ pub mod NamedTables
 pub mod Obeying
 pub mod Runs
 pub mod ShortestRuns
+pub mod Styles
 pub mod Texts

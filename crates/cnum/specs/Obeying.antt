@@ -6,9 +6,9 @@ use Rattle.cn_words.specs.declared.commands.Invocation.TheVariants.{Classify, Li
 use Rattle.cn_words.specs.declared.commands.Invocation.TheVariants.{RecoverablePlan, ShortestPlan}
 use Rattle.cn_words.specs.declared.commands.Invocation.TheVariants.{ShortestRun}
 use Rattle.cn_words.specs.declared.commands.TextSource.{TextSource}
+use Rattle.cn_words.specs.declared.plan_words.PlanWords.{PlanWords}
 use Rattle.cn_words.specs.declared.without_certificate.RunWords.{RunWords}
 use Rattle.cn_form.specs.declared.answer_form.AnswerForm.{AnswerForm}
-use Rattle.cn_form.specs.declared.plan_form.PlanForm.{PlanForm}
 use Rattle.cn_io.specs.Streams.Writing.{IsUnwritten}
 use Rattle.cn_io.specs.declared.fault.AppFault.{AppFault}
 use Rattle.cn_io.specs.declared.report.Outcome.{Outcome}
@@ -51,10 +51,10 @@ module _ {S F D W : Type 0} (remaining : S → Option (List ℕ)) (left : LazyFi
       × (status ≡ command_status end)
 
   -- the shortest plan was written, with the status of the result
-  abbrev pub ShowsShortestPlans : S → TextSource → AskedPlan → PlanForm → Output W → Output W
+  abbrev pub ShowsShortestPlans : S → TextSource → AskedPlan → PlanWords → Output W → Output W
       → ℕ → Type 0
-  ShowsShortestPlans stdin table asked form u v status = (end : Result Outcome AppFault)
-      × ShowsShortest remaining left contents files stdin table asked form u v end
+  ShowsShortestPlans stdin table asked words u v status = (end : Result Outcome AppFault)
+      × ShowsShortest remaining left contents files stdin table asked words u v end
       × (status ≡ command_status end)
 
   -- the plan of the first recording witness was written, with the status of the result
@@ -88,9 +88,9 @@ module _ {S F D W : Type 0} (remaining : S → Option (List ℕ)) (left : LazyFi
   Does stdin (Lives table words) u v status = RunsPlans stdin table words u v status
   Does stdin (ShortestRun table without_read words) u v status =
       RunsShortestPlans stdin table without_read words u v status
-  Does stdin (ShortestPlan table without_read processes form) u v status =
+  Does stdin (ShortestPlan table without_read processes words) u v status =
       ShowsShortestPlans stdin table
-      (record { processes = processes; without_read = without_read }) form u v status
+      (record { processes = processes; without_read = without_read }) words u v status
   Does stdin (RecoverablePlan table processes form) u v status =
       ShowsRecoverablePlans stdin table processes form u v status
 

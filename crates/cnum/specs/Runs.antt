@@ -12,6 +12,9 @@ use Rattle.cn_words.specs.declared.commands.Command.TheVariants.{Changes}
 use Rattle.cn_words.specs.declared.commands.Command.TheVariants.{Replay, Serve}
 use Rattle.cn_words.specs.declared.commands.OpeningWords.{OpeningWords}
 use Rattle.cn_words.specs.declared.commands.TextSource.{TextSource}
+use Rattle.cn_words.specs.declared.plan_words.ObjectWords.{ObjectWords}
+use Rattle.cn_words.specs.declared.plan_words.PlanWords.{PlanWords}
+use Rattle.cn_words.specs.declared.plan_words.StyleWords.{StyleWords}
 use Rattle.cn_form.specs.declared.answer_form.AnswerForm.{AnswerForm}
 use Rattle.cn_hall.specs.declared.call.AlwaysOn.{AlwaysOn}
 use Rattle.cn_hall.specs.declared.call.Go.TheVariants.{On}
@@ -32,7 +35,7 @@ use Rattle.cn_app.specs.Commands.Lint.{HasLintReport}
 use Rattle.cn_app.specs.Commands.Pairs.{HasPairsReport}
 use Rattle.cn_app.specs.Commands.Replay.{HasReplayReport, SpellEvents}
 use Rattle.cn_app.specs.Commands.Serve.{HasServeReport, SpellCalls}
-use Rattle.cn_app.specs.Commands.Show.{HasShowReport}
+use Rattle.cn_app.specs.Commands.Show.{HasShowObjectReport, HasShowReport}
 use Rattle.cn_app.specs.Commands.Why.{HasWhyReport}
 use Rattle.cn_app.specs.Commands.WhyRecoverable.{HasWhyRecoverableReport}
 use Rattle.cn_app.specs.Commands.WhyStocks.{HasWhyStocksReport}
@@ -41,6 +44,7 @@ use Rattle.cn_io.specs.Streams.Reading.{HasRead}
 use Rattle.cn_io.specs.Streams.Writing.{IsSilent, Reports}
 use Rattle.cn_io.specs.Texts.Checked.{AreUntouched, HaveReadBoth}
 use Rattle.cn_io.specs.Texts.Openings.{HaveReadAll}
+use Rattle.cn_io.specs.Texts.ServedObjects.{HaveReadTableAndObject, HaveReadWithObject}
 use Rattle.cn_service.specs.Workers.{EachHasOneGate}
 use Rattle.cn_io.specs.declared.arguments.list_text.ListText.{ListText}
 use Rattle.cn_io.specs.declared.fault.AppFault.{AppFault}
@@ -50,6 +54,7 @@ use Rattle.cn_io.specs.declared.fault.Source.TheVariants.{Table}
 use Rattle.cn_io.specs.declared.readers.opening.OpeningArguments.{OpeningArguments}
 use Rattle.cn_io.specs.declared.report.Outcome.{Outcome}
 use Rattle.cn_io.specs.declared.report.Report.{Report}
+use Rattle.cn_app.specs.declared.plan_style.PlanStyle.{PlanStyle}
 use Rattle.cn_app.specs.declared.reports.agree.AskedRun.{AskedRun}
 use Rattle.cn_app.specs.declared.reports.changes.AskedChanges.{AskedChanges}
 use Rattle.cn_changes.specs.declared.kind.NumberKind.{NumberKind}
@@ -58,6 +63,7 @@ use Rattle.cn_form.specs.declared.answer_form.DocumentForm.{DocumentForm}
 use Rattle.cn_io.specs.declared.streams.output.Output.{Output}
 use Rattle.cn_io.specs.declared.streams.text.Text.{Text}
 use Rattle.cnum.specs.GivenLists.{GivesList}
+use Rattle.cnum.specs.Styles.{GivesStyle}
 use Rattle.cnum.specs.Texts.{IsTextFrom, IsTextOf, left_of}
 use Rattle.cnum.specs.declared.lazy_file.LazyFile.{LazyFile}
 use Rattle.cnum.specs.declared.text_reader.TextReader.{TextReader}
@@ -93,7 +99,7 @@ certificate_of (CheckShortest certificate form) = Some certificate
 certificate_of (CheckStocks certificate form) = Some certificate
 certificate_of (Explain certificate all form) = Some certificate
 certificate_of (ExplainStocks certificate all) = Some certificate
-certificate_of (Show certificate form) = Some certificate
+certificate_of (Show certificate words) = Some certificate
 certificate_of (Agree certificate inputs schedule steps form) = Some certificate
 certificate_of (Replay opening events form) = Some opening.certificate
 certificate_of (Serve opening calls form) = Some opening.certificate
@@ -108,6 +114,15 @@ pub record HasArguments {R C L : Type 0} (left : L → Option (List ℕ))
   pub object : IsTextOf left (files words.object.now) given.object
   pub start : given.start ≡ words.start
   pub capacity : given.capacity ≡ words.capacity
+
+-- the words for the style are read, and `next` takes it; or the prefix is refused, and nothing is
+-- written
+abbrev pub ReadsStyle : {W : Type 0} → StyleWords
+    → (PlanStyle → Output W → Output W → Result Outcome AppFault → Type 0) → Output W → Output W
+    → Result Outcome AppFault → Type 0
+ReadsStyle words next u v r =
+    ((e : AppFault) × GivesStyle words (Err e) × (r ≡ Err e) × IsSilent u v)
+    ⊎ ((style : PlanStyle) × GivesStyle words (Ok style) × next style u v r)
 
 -- in terms of the bytes that the readers of tables, of certificates and of files have left, those
 -- that the writer holds, and those of the file of each name, if they are known
@@ -131,6 +146,30 @@ module _ {R C L W : Type 0} (remaining : R → Option (List ℕ)) (rest : C → 
     pub read : HaveReadBoth remaining rest table table_after certificate certificate_after
     pub order : AreUntouched table table_after certificate certificate_after ⊎ may_read
     pub reported : Reports contents (work table_after certificate_after) u v r
+
+  -- a table, a certificate and the file of an object were read, and the report on them was written
+  pub record ReadsWithObject (table : Text R) (certificate : Text C) (words : ObjectWords)
+      (work : Text R → Text C → Text L → Result Report AppFault → Type 0)
+      (u v : Output W) (r : Result Outcome AppFault) : Type 0 where
+    pub table_after : Text R
+    pub certificate_after : Text C
+    pub object : Text L
+    pub object_after : Text L
+    pub opened : IsTextOf left (files words.object.now) object
+    pub read : HaveReadWithObject remaining rest left table table_after certificate
+        certificate_after object object_after
+    pub reported : Reports contents (work table_after certificate_after object_after) u v r
+
+  -- a table and the file of an object were read, and the report on them was written
+  pub record ReadsTableAndObject (table : Text R) (words : ObjectWords)
+      (work : Text R → Text L → Result Report AppFault → Type 0)
+      (u v : Output W) (r : Result Outcome AppFault) : Type 0 where
+    pub after : Text R
+    pub object : Text L
+    pub object_after : Text L
+    pub opened : IsTextOf left (files words.object.now) object
+    pub read : HaveReadTableAndObject remaining left table after object object_after
+    pub reported : Reports contents (work after object_after) u v r
 
   -- the texts of an opening were read, unless nothing may be read, and the report on them was
   -- written
@@ -179,6 +218,21 @@ module _ {R C L W : Type 0} (remaining : R → Option (List ℕ)) (rest : C → 
       (λ given. HasServeReport
       (EachHasOneGate {G = AlwaysOn} (λ _ _ _ _. Unit {0}) (λ _. On) (λ _ _. Unit {0})) given list form))
       u v r
+
+  -- the plan of a certificate's witness was written, with an object if there are words for one
+  abbrev pub WritesPlan : Text R → Text C → Option ObjectWords → PlanStyle → Output W → Output W
+      → Result Outcome AppFault → Type 0
+  WritesPlan table certificate None style u v r =
+      ReadsBoth table certificate (Unit {0}) (λ t c. HasShowReport t c style) u v r
+  WritesPlan table certificate (Some words) style u v r =
+      ReadsWithObject table certificate words
+      (λ t c o. HasShowObjectReport t c o words.start.now style) u v r
+
+  -- `show` with a table, a certificate and these words: those for the style are read first
+  abbrev pub RunsShow : Text R → Text C → PlanWords → Output W → Output W
+      → Result Outcome AppFault → Type 0
+  RunsShow table certificate words u v r =
+      ReadsStyle words.style (WritesPlan table certificate words.object) u v r
 
 -- in terms of the bytes that standard input and files have left, those that the writer holds, and
 -- those of the file of each name, if they are known
@@ -245,9 +299,9 @@ module _ {S D F W : Type 0} (remaining : S → Option (List ℕ)) (left : LazyFi
   RunsOn stdin table (Explain certificate all form) u v r = With stdin certificate
       (λ c. ReadsBoth (left_of remaining left) (left_of remaining left) left contents files table c
       (Unit {0}) (λ t d. HasExplainReport t d all form) u v r)
-  RunsOn stdin table (Show certificate form) u v r = With stdin certificate
-      (λ c. ReadsBoth (left_of remaining left) (left_of remaining left) left contents files table c
-      (Unit {0}) (λ t d. HasShowReport t d form) u v r)
+  RunsOn stdin table (Show certificate words) u v r = With stdin certificate
+      (λ c. RunsShow (left_of remaining left) (left_of remaining left) left contents files table c
+      words u v r)
   RunsOn stdin table (Agree certificate inputs schedule steps form) u v r = With stdin certificate
       (λ c. RunsAgree (left_of remaining left) (left_of remaining left) left contents files table c
       inputs.now schedule.now (record { steps = steps; form = form }) u v r)

@@ -1,7 +1,7 @@
 //! Faults, hints and notes on standard error.
 use cn_app::commands::Tell;
 use cn_app::{AppFault, Known};
-use cn_words::{Command, TextSource};
+use cn_words::{Command, ObjectWords, TextSource};
 
 /// Tells each fault in a line on standard error. The status of the program tells of it too, so that
 /// it is not lost where that stream is closed. A failed write is told at the [`end`](Faults::end),
@@ -82,10 +82,19 @@ fn file_of<'a>(source: TextSource<'a>) -> Option<&'a str> {
     }
 }
 
+/// The name of the file of the object that a program serves, if it serves one.
+pub fn file_of_object<'a>(words: Option<ObjectWords<'a>>) -> Option<&'a str> {
+    match words {
+        Some(words) => Some(words.object),
+        None => None,
+    }
+}
+
 /// What is known of the texts of a command before they are read.
 pub fn known_of<'a>(table: TextSource<'a>, command: &Command<'a>) -> Known<'a> {
     let object = match command {
         Command::Replay { opening, .. } | Command::Serve { opening, .. } => Some(opening.object),
+        Command::Show { words, .. } => file_of_object(words.object),
         _ => None,
     };
     let mut known = Known::of_files(file_of(table), object);

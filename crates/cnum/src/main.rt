@@ -21,16 +21,17 @@ mod pipe_writer;
 mod runs;
 mod search_progress;
 mod shortest_runs;
+mod style;
 mod text_reader;
 
 use awaited_input::{AwaitedInput, FirstRead};
 use cn_app::commands::Tell;
 use cn_app::reports::{AskedNumbers, AskedPlan};
 use cn_app::{AppFault, Known, Outcome, Output};
-use cn_form::{AnswerForm, PlanForm};
-use cn_words::{CommandFault, Invocation, Reply, RunWords, TextSource};
+use cn_form::AnswerForm;
+use cn_words::{CommandFault, Invocation, PlanWords, Reply, RunWords, TextSource};
 use disk::Disk;
-use faults::{Faults, known_of, known_of_plan, known_of_processes};
+use faults::{Faults, file_of_object, known_of, known_of_plan, known_of_processes};
 use lives_run::{run_lives, show_recoverable};
 use pipe_writer::{PipeWriter, is_broken_pipe};
 use runs::{classify, run};
@@ -131,15 +132,16 @@ fn do_shortest_plan<T: Disk + Eprint, I: Read + Copy + Drop, O: Write>(
     faults: &mut Faults<'_, T>,
     table: TextSource<'_>,
     asked: AskedPlan,
-    form: PlanForm,
+    words: PlanWords<'_>,
 ) -> ExitCode
     requires { IsWritable output.old }
     ensures { ShowsShortestPlans I.remaining (left_in T.contents T.Reader.remaining) O.contents
-        (T.contents rt.now) stdin table.entry asked form output.old output.new
+        (T.contents rt.now) stdin table.entry asked words.entry output.old output.new
         (exit_status result) }
 {
     let mut known = known_of_plan(table, asked.processes, asked.without_read);
-    let end = show_shortest(rt, alloc, stdin, output, table, asked, form, &mut known);
+    known.object = file_of_object(words.object);
+    let end = show_shortest(rt, alloc, stdin, output, table, asked, words, &mut known);
     command_exit(faults, end, &known)
 }
 
@@ -224,13 +226,13 @@ fn do_command<T: Threads + Wait + Clock + Sync + Disk + Eprint, I: Read + Copy +
             table,
             without_read,
             processes,
-            form,
+            words,
         } => {
             let asked = AskedPlan {
                 processes: *processes,
                 without_read: *without_read,
             };
-            do_shortest_plan(rt, alloc, stdin, output, faults, *table, asked, *form)
+            do_shortest_plan(rt, alloc, stdin, output, faults, *table, asked, *words)
         }
         Invocation::RecoverablePlan {
             table,

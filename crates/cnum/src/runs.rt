@@ -2,7 +2,7 @@
 ghost use Rattle.std.specs.Prelude.{◌≡◌, IfOk, None, Some};
 ghost use Rattle.cnum.specs.NamedTables.{AreNamed, ClassifiesSources, bytes_of, name_of};
 ghost use Rattle.cnum.specs.Runs.{HasArguments, Runs, RunsAgree, RunsOn, RunsReplay};
-ghost use Rattle.cnum.specs.Runs.{RunsServe, asked_changes, asked_kind, certificate_of};
+ghost use Rattle.cnum.specs.Runs.{RunsServe, RunsShow, WritesPlan, asked_changes, asked_kind, certificate_of};
 ghost use Rattle.cnum.specs.Texts.{IsTextFrom, IsTextOf, left_in, left_of};
 ghost use Rattle.cn_io.specs.Streams.Reading.{IsUnread};
 ghost use Rattle.cn_io.specs.Streams.Writing.{IsWritable};
@@ -10,14 +10,15 @@ ghost use Rattle.cn_io.specs.Streams.Writing.{IsWritable};
 use crate::disk::Disk;
 use crate::given_list::given_list;
 use crate::lazy_file::{LazyFile, file_text};
+use crate::style::style_of;
 use crate::text_reader::TextReader;
 use cn_app::commands::{self, NamedTable, Tell};
 use cn_app::readers::OpeningArguments;
 use cn_app::reports::{AskedChanges, AskedNumbers, AskedRun, NumberKind, Progress};
-use cn_app::{AppFault, Argument, Known, Outcome, Output, Text};
+use cn_app::{AppFault, Argument, Known, Outcome, Output, PlanStyle, Text};
 use cn_form::{AnswerForm, DocumentForm};
 use cn_hall::AlwaysOn;
-use cn_words::{Command, OpeningWords, TextSource};
+use cn_words::{Command, ObjectWords, OpeningWords, PlanWords, TextSource};
 use std::alloc::{AllocError, Global};
 use std::io::{Read, Write};
 use std::sync::Wait;
@@ -152,6 +153,53 @@ fn noting_both<I, C>(
         known.note_certificate(alloc, fault, &certificate.bytes);
     }
     noting_table(alloc, known, table, end)
+}
+
+// Writes the plan of a certificate's witness, with the object that the words name, if there are any.
+fn write_plan<D: Disk, I: Read, C: Read, O: Write>(
+    disk: &D,
+    alloc: Global,
+    table: &mut Text<I>,
+    certificate: &mut Text<C>,
+    output: &mut Output<O>,
+    object: Option<ObjectWords<'_>>,
+    style: &PlanStyle,
+) -> Result<Outcome, AppFault>
+    requires texts { IsUnread table.old × IsUnread certificate.old }
+    requires output { IsWritable output.old }
+    ensures { WritesPlan I.remaining C.remaining (left_in D.contents D.Reader.remaining) O.contents
+        (D.contents disk.now) table.old certificate.old object.entry style.now output.old output.new
+        result }
+{
+    match object {
+        None => commands::show(alloc, table, certificate, output, style),
+        Some(words) => {
+            let mut object = file_text(disk, alloc, words.object);
+            let (text, start) = (&mut object, words.start);
+            commands::show_object(alloc, table, certificate, text, start, output, style)
+        }
+    }
+}
+
+// Reads the words for the style, and writes the plan of a certificate's witness.
+fn show<D: Disk, I: Read, C: Read, O: Write>(
+    disk: &D,
+    alloc: Global,
+    table: &mut Text<I>,
+    certificate: &mut Text<C>,
+    output: &mut Output<O>,
+    words: PlanWords<'_>,
+    known: &mut Known<'_>,
+) -> Result<Outcome, AppFault>
+    requires texts { IsUnread table.old × IsUnread certificate.old }
+    requires output { IsWritable output.old }
+    ensures { RunsShow I.remaining C.remaining (left_in D.contents D.Reader.remaining) O.contents
+        (D.contents disk.now) table.old certificate.old words.entry output.old output.new result }
+{
+    let style = style_of(alloc, words.style)?;
+    let object = words.object;
+    let written = write_plan(disk, alloc, table, certificate, output, object, &style);
+    noting_table(alloc, known, table, written)
 }
 
 // Reads the lists, and runs the plan of a certificate's witness by them.
@@ -362,9 +410,9 @@ fn run_on_both<T: Threads + Wait + Sync + Disk, S: Read + Copy + Drop, O: Write>
             let end = commands::explain_stocks(alloc, &mut table, &mut certificate, output, all);
             noting_table(alloc, known, &table, end)
         }
-        Command::Show { form, .. } => {
-            let end = commands::show(alloc, &mut table, &mut certificate, output, form);
-            noting_table(alloc, known, &table, end)
+        Command::Show { words, .. } => {
+            let (table, certificate) = (&mut table, &mut certificate);
+            show(rt, alloc, table, certificate, output, words, known)
         }
         Command::Agree {
             inputs,

@@ -6,12 +6,18 @@
 //! It is plain Rust: nothing here is proved.
 mod consensus;
 
-use consensus::{Consensus, Object, OPERATIONS, PROCESSES, START};
+use consensus::{check_object, Consensus, Object, Process, OPERATIONS, PROCESSES};
 use std::sync::atomic::{AtomicU8, Ordering::SeqCst};
-use std::sync::Barrier;
+use std::sync::{Arc, Barrier};
 
 /// Three bits. The number of a state, and that of a response, is the number that the bits write.
 struct Bits(AtomicU8);
+
+impl Bits {
+    fn new(state: usize) -> Bits {
+        Bits(AtomicU8::new(state as u8))
+    }
+}
 
 impl Object for Bits {
     fn apply(&self, operation: usize) -> usize {
@@ -31,21 +37,27 @@ impl Object for Bits {
 fn main() {
     let word = std::env::args().nth(1).expect("usage: three_agree ROUNDS");
     let rounds: u64 = word.parse().expect("ROUNDS is a number");
-    let bits = || Bits(AtomicU8::new(START as u8));
-    let all: Vec<_> = (0..rounds).map(|_| Consensus::new([bits(), bits()])).collect();
+    check_object(Bits::new);
+    // For each process its handles, by round.
+    let mut handles: [Vec<Process<Arc<Consensus<Bits>>>>; PROCESSES] = Default::default();
+    for _ in 0..rounds {
+        let made = Consensus::processes(Bits::new, Arc::new);
+        handles.iter_mut().zip(made).for_each(|(all, handle)| all.push(handle));
+    }
     let barrier = Barrier::new(PROCESSES);
     // In round r process p proposes 3r + p.
-    let decide_all = |process: usize| -> Vec<u64> {
+    let decide_all = |handles: Vec<Process<_>>| -> Vec<u64> {
         let mut decided = Vec::new();
-        for (round, one) in (0..rounds).zip(&all) {
+        for (round, handle) in (0..).zip(handles) {
             barrier.wait();
-            decided.push(one.decide(process, 3 * round + process as u64));
+            let process = handle.number() as u64;
+            decided.push(handle.decide(3 * round + process));
         }
         decided
     };
     let [x, y, z] = std::thread::scope(|scope| {
-        let start = |process| scope.spawn(move || decide_all(process));
-        [0, 1, 2].map(start).map(|thread| thread.join().unwrap())
+        let start = |handles| scope.spawn(|| decide_all(handles));
+        handles.map(start).map(|thread| thread.join().unwrap())
     });
     for (round, ((x, y), z)) in (0..rounds).zip(x.iter().zip(&y).zip(&z)) {
         let is_input = x / 3 == round;

@@ -16,6 +16,7 @@ static uint64_t rounds;
 static _Atomic uint64_t end;
 static time_t late;
 static struct consensus *all;
+static struct consensus_process (*processes)[CONSENSUS_PROCESSES];
 static uint64_t *decided[CONSENSUS_PROCESSES];
 static _Atomic uint64_t come;
 
@@ -62,23 +63,28 @@ static void *decide_all(void *of)
     unsigned process = (unsigned)(mine - decided);
     for (uint64_t round = 0; round < atomic_load(&end); round++) {
         meet(process, round);
-        (*mine)[round] = consensus_decide(&all[round], process, round * CONSENSUS_PROCESSES + process);
+        if (consensus_decide(&processes[round][process], round * CONSENSUS_PROCESSES + process, &(*mine)[round]) != CONSENSUS_OK)
+            exit(2);
     }
     return NULL;
+}
+
+/* The next of the cells, in a state. */
+static struct consensus_object make(void *of, unsigned state)
+{
+    _Atomic unsigned char **cells = of, *cell = (*cells)++;
+    atomic_init(cell, (unsigned char)state);
+    struct consensus_object object = OBJECT(cell);
+    return object;
 }
 
 static void start(void)
 {
     _Atomic unsigned char *cells = malloc(rounds * CONSENSUS_NODES);
     all = malloc(rounds * sizeof *all);
-    for (uint64_t round = 0; round < rounds; round++) {
-        struct consensus_object objects[CONSENSUS_NODES];
-        for (unsigned node = 0; node < CONSENSUS_NODES; node++) {
-            atomic_init(&cells[round * CONSENSUS_NODES + node], START(node));
-            objects[node] = (struct consensus_object)OBJECT(&cells[round * CONSENSUS_NODES + node]);
-        }
-        consensus_new(&all[round], objects);
-    }
+    processes = malloc(rounds * sizeof *processes);
+    for (uint64_t round = 0; round < rounds; round++)
+        consensus_processes(&all[round], make, &cells, processes[round]);
 }
 
 int main(int count, char **words)

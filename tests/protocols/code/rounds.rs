@@ -5,8 +5,9 @@ mod shape;
 mod consensus;
 mod table;
 
-use consensus::{Consensus, Object, PROCESSES};
+use consensus::{Consensus, Object, Process, PROCESSES};
 use std::sync::atomic::{AtomicU64, AtomicU8, Ordering::SeqCst};
+use std::sync::Arc;
 use std::thread;
 use std::time::{Duration, Instant};
 
@@ -14,6 +15,12 @@ const LEAST: u64 = 100;
 
 /// An object: its state.
 struct Cell(AtomicU8);
+
+impl Cell {
+    fn new(state: usize) -> Self {
+        Cell(AtomicU8::new(state as u8))
+    }
+}
 
 impl Object for Cell {
     fn apply(&self, operation: usize) -> usize {
@@ -60,25 +67,31 @@ impl Shared {
 fn main() {
     let word = std::env::args().nth(1).expect("usage: rounds ROUNDS");
     let rounds: u64 = word.parse().expect("ROUNDS is a number");
-    let start = |node| Cell(AtomicU8::new(shape::start(node) as u8));
-    let all: Vec<_> = (0..rounds).map(|_| Consensus::new(std::array::from_fn(start))).collect();
+    // For each process its handles, by round.
+    let mut all = [(); PROCESSES].map(|_| Vec::new());
+    for _ in 0..rounds {
+        for handle in Consensus::processes(Cell::new, Arc::new) {
+            all[handle.number()].push(handle);
+        }
+    }
     let (come, end) = (AtomicU64::new(0), AtomicU64::new(rounds));
     let late = Instant::now() + Duration::from_secs(1);
-    let (all, shared, n) = (&all, &Shared { come, end, late }, PROCESSES as u64);
+    let (shared, n) = (&Shared { come, end, late }, PROCESSES as u64);
     // In round r of n processes, process p proposes rn + p.
-    let decide_all = |process: u64| -> Vec<u64> {
+    let decide_all = |handles: Vec<Process<Arc<Consensus<Cell>>>>| -> Vec<u64> {
         let mut decided = Vec::new();
-        for (round, one) in (0..).zip(all) {
+        for (round, one) in (0..).zip(handles) {
+            let process = one.number() as u64;
             if round >= shared.end.load(SeqCst) {
                 break;
             }
             shared.meet(process, round);
-            decided.push(one.decide(process as usize, round * n + process));
+            decided.push(one.decide(round * n + process));
         }
         decided
     };
     let decided: Vec<Vec<u64>> = thread::scope(|scope| {
-        let threads: Vec<_> = (0..n).map(|p| scope.spawn(move || decide_all(p))).collect();
+        let threads = all.map(|handles| scope.spawn(move || decide_all(handles)));
         threads.into_iter().map(|it| it.join().unwrap()).collect()
     });
     let mut firsts = vec![false; PROCESSES];

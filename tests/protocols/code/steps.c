@@ -6,7 +6,6 @@
 
 /* What stands there for the atomics of <stdatomic.h>. */
 #define _Atomic
-static void atomic_init(uint64_t *place, uint64_t value);
 static void atomic_store(uint64_t *place, uint64_t value);
 static uint64_t atomic_load(uint64_t *place);
 
@@ -14,7 +13,9 @@ static uint64_t atomic_load(uint64_t *place);
 #include "shape.h"
 
 static struct consensus one;
+static struct consensus_process processes[CONSENSUS_PROCESSES];
 static char **observations;
+static unsigned of_nodes[CONSENSUS_NODES];
 
 /* What the process observes by its next step, which is told. The program ends with the first step whose observation is not known. */
 static uint64_t observed(const char *told)
@@ -35,13 +36,13 @@ static uint64_t at_register(const char *step, const uint64_t *place)
     return observed(told);
 }
 
-static void atomic_init(uint64_t *place, uint64_t value)
-{
-    *place = value;
-}
-
+/* The registers are empty before the first step. */
 static void atomic_store(uint64_t *place, uint64_t value)
 {
+    if (!observations) {
+        *place = value;
+        return;
+    }
     char step[50];
     snprintf(step, sizeof step, "writes %llu to", (unsigned long long)value);
     at_register(step, place);
@@ -69,22 +70,30 @@ static unsigned read_state(void *self)
 }
 #endif
 
+/* The objects in the order of their nodes. */
+static struct consensus_object make(void *of, unsigned state)
+{
+    unsigned **nodes = of, *node = (*nodes)++;
+    struct consensus_object object = OBJECT(node);
+    (void)state;
+    *node = (unsigned)(node - of_nodes);
+    return object;
+}
+
 int main(int count, char **words)
 {
-    unsigned nodes[CONSENSUS_NODES];
-    struct consensus_object objects[CONSENSUS_NODES];
+    unsigned *next = of_nodes;
+    uint64_t decided;
     if (count < 3) {
         printf("%d %d %d", CONSENSUS_PROCESSES, CONSENSUS_NODES, TEAMS);
         for (unsigned node = 0; node < CONSENSUS_NODES; node++)
-            printf(" %u", (unsigned)START(node));
+            printf(" %u", START(node));
         return 0;
     }
+    consensus_processes(&one, make, &next, processes);
     observations = words + 3;
-    for (unsigned node = 0; node < CONSENSUS_NODES; node++) {
-        nodes[node] = node;
-        objects[node] = (struct consensus_object)OBJECT(&nodes[node]);
-    }
-    consensus_new(&one, objects);
-    printf("decides %llu\n", (unsigned long long)consensus_decide(&one, (unsigned)atoi(words[1]), strtoull(words[2], NULL, 10)));
+    if (consensus_decide(&processes[atoi(words[1])], strtoull(words[2], NULL, 10), &decided) != CONSENSUS_OK)
+        return 1;
+    printf("decides %llu\n", (unsigned long long)decided);
     return 0;
 }

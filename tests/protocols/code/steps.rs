@@ -4,17 +4,22 @@
 mod shape;
 mod consensus;
 
-use consensus::{Consensus, Object, NODES, PROCESSES};
+use consensus::{Consensus, Object, NODES, PROCESSES, STARTS, TEAMS};
 
 /// What stands there for std's atomics, and for the objects.
 mod mock {
-    use crate::shape::TEAMS;
+    use crate::consensus::TEAMS;
     use std::sync::atomic::{AtomicUsize, Ordering::Relaxed};
 
     pub struct SeqCst;
     /// A register, by its number.
+    #[derive(Debug)]
     pub struct AtomicU64(usize);
+    /// A flag of a value of any type, which no process has here.
+    #[derive(Debug)]
+    pub struct AtomicBool(());
     /// An object, by its node.
+    #[derive(Debug)]
     pub struct Mock(pub usize);
 
     static REGISTERS: AtomicUsize = AtomicUsize::new(0);
@@ -50,6 +55,22 @@ mod mock {
         }
     }
 
+    impl AtomicBool {
+        pub fn new(_: bool) -> AtomicBool {
+            AtomicBool(())
+        }
+
+        pub fn swap(&self, _: bool, _: SeqCst) -> bool {
+            unreachable!()
+        }
+
+        pub fn store(&self, _: bool, _: SeqCst) {}
+
+        pub fn load(&self, _: SeqCst) -> bool {
+            unreachable!()
+        }
+    }
+
     impl super::Object for Mock {
         fn apply(&self, operation: usize) -> usize {
             observed(format!("applies {operation} at node {}", self.0)) as usize
@@ -66,9 +87,10 @@ mod mock {
 fn main() {
     let words: Vec<u64> = std::env::args().skip(1).map(|it| it.parse().unwrap()).collect();
     let [process, value, ..] = words[..] else {
-        let starts: Vec<_> = (0..NODES).map(|node| shape::start(node).to_string()).collect();
-        mock::end(&format!("{PROCESSES} {NODES} {} {}", shape::TEAMS, starts.join(" ")));
+        mock::end(&format!("{PROCESSES} {NODES} {TEAMS} {}", STARTS.map(|it| it.to_string()).join(" ")));
     };
-    let one = Consensus::new(std::array::from_fn::<_, NODES, _>(mock::Mock));
-    mock::end(&format!("decides {}", one.decide(process as usize, value)));
+    let mut nodes = 0..NODES;
+    let processes = Consensus::processes(|_| mock::Mock(nodes.next().unwrap()), std::sync::Arc::new);
+    let one = processes.into_iter().nth(process as usize).unwrap();
+    mock::end(&format!("decides {}", one.decide(value)));
 }

@@ -10,10 +10,11 @@ ghost use Rattle.cn_io.specs.Texts.Checked.{AreUntouched, HaveReadBoth};
 ghost use Rattle.cn_io.specs.Streams.Reading.{IsUnread};
 ghost use Rattle.cn_io.specs.Streams.Writing.{IsWritable, Reports};
 
+use crate::plan_style::PlanStyle;
 use crate::reports::check::verdict_report;
 use crate::reports::check_unread::unread_verdict_report;
 use crate::reports::{AskedRun, agree_report, explain_report, show_report};
-use cn_form::{AnswerForm, PlanForm};
+use cn_form::AnswerForm;
 use cn_io::readers::{check_certificate, check_unread_certificate, read_checked, read_table};
 use cn_io::{AppFault, ListText, Outcome, Output, Text, read_run_lists};
 use std::alloc::Global;
@@ -114,7 +115,7 @@ pub fn explain<R: Read, C: Read, W: Write>(
 }
 
 /// Reads a type table and a certificate, checks the certificate against the table, and writes the
-/// plan of the certificate's witness in a form ([`show_report`]).
+/// plan of the certificate's witness in a style ([`show_report`]).
 ///
 /// # Errors
 ///
@@ -124,7 +125,7 @@ pub fn show<R: Read, C: Read, W: Write>(
     table: &mut Text<R>,
     certificate: &mut Text<C>,
     output: &mut Output<W>,
-    form: PlanForm,
+    style: &PlanStyle,
 ) -> Result<Outcome, AppFault>
     requires texts { IsUnread table.old × IsUnread certificate.old }
     requires output { IsWritable output.old }
@@ -133,12 +134,13 @@ pub fn show<R: Read, C: Read, W: Write>(
     ensures read { HaveReadBoth R.remaining C.remaining table.old table.new
         certificate.old certificate.new }
     // promise: plan-by-show (HasShowReport: GivesChecked, IsPlanOf; form_text: plan_text,
-    //     plan_data, plan_dot, plan_promela, rust_text, c_text)
-    ensures shown { Reports W.contents (HasShowReport table.new certificate.new form)
+    //     plan_data, plan_dot, plan_promela, rust_text, c_text, header_text)
+    ensures shown { Reports W.contents
+        (HasShowReport table.new certificate.new style.now)
         output.old output.new result }
 {
     let checked = read_checked(alloc, table, certificate)?;
-    output.report(show_report(alloc, &checked, form))
+    output.report(show_report(alloc, &checked, style))
 }
 
 /// Reads a type table and a certificate, checks the certificate against the table, and runs the

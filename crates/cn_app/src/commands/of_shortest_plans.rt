@@ -6,14 +6,14 @@ ghost use Rattle.cn_app.specs.Commands.ShowShortest.{HasShowShortestReport};
 ghost use Rattle.cn_io.specs.Streams.Reading.{HasRead, IsUnread};
 ghost use Rattle.cn_io.specs.Streams.Writing.{IsWritable, Reports};
 
+use crate::plan_style::PlanStyle;
 use crate::reports::{AskedPlan, AskedRun, agree_shortest_report, show_shortest_report};
-use cn_form::PlanForm;
 use cn_io::readers::read_table;
 use cn_io::{AppFault, ListText, Outcome, Output, Source, Text, read_run_lists};
 use std::alloc::Global;
 use std::io::{Read, Write};
 
-/// Reads a type table, and writes its shortest plan in a form ([`show_shortest_report`]).
+/// Reads a type table, and writes its shortest plan in a style ([`show_shortest_report`]).
 ///
 /// # Errors
 ///
@@ -23,7 +23,7 @@ pub fn show_shortest<R: Read, W: Write>(
     table: &mut Text<R>,
     output: &mut Output<W>,
     asked: AskedPlan,
-    form: PlanForm,
+    style: &PlanStyle,
 ) -> Result<Outcome, AppFault>
     requires table { IsUnread table.old }
     requires output { IsWritable output.old }
@@ -31,11 +31,12 @@ pub fn show_shortest<R: Read, W: Write>(
     ensures read { HasRead Source.Table R.remaining table.old table.new }
     // promise: shortest-plan-by-show (HasShowShortestReport: GivesShortestPlan: HasNoPlan,
     //     IsShortestPlan: count, least; tree_text)
-    ensures shown { Reports W.contents (HasShowShortestReport table.new asked form)
+    ensures shown { Reports W.contents
+        (HasShowShortestReport table.new asked style.now)
         output.old output.new result }
 {
     let table = read_table(alloc, table)?;
-    output.report(show_shortest_report(alloc, &table, asked, form))
+    output.report(show_shortest_report(alloc, &table, asked, style))
 }
 
 /// Reads a type table, and runs its shortest plan under a schedule ([`agree_shortest_report`]).

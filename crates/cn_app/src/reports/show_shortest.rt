@@ -1,10 +1,11 @@
 //! The report of `show` on a shortest plan.
-ghost use Rattle.std.specs.Prelude.{◌≡◌, IfOk, string_bytes};
-ghost use Rattle.cn_app.specs.Commands.ShowShortest.{IsShowShortestReport, IsTreeReport, tree_text};
+ghost use Rattle.std.specs.Prelude.{◌≡◌, IfOk, option_copied, string_bytes};
+ghost use Rattle.cn_app.specs.Commands.ShowShortest.{IsShowShortestObjectReport, IsShowShortestReport, IsTreeReport, tree_text};
 
+use crate::plan_style::PlanStyle;
 use crate::reports::shortest::{AskedPlan, plan_for};
-use cn_code::{tree_as_c, tree_as_rust};
-use cn_form::PlanForm;
+use cn_code::{Served, tree_as_c, tree_as_header, tree_as_rust};
+use cn_io::readers::served_from;
 use cn_io::{AppFault, Report, with_line_feed};
 use cn_json::tree_plan_json;
 use cn_table::Table;
@@ -12,36 +13,49 @@ use cn_tree_plans::TreePlan;
 use cn_tree_text::{plan_dot, plan_lines, plan_promela};
 use std::alloc::{AllocError, Global};
 
-/// The text of a plan tree in a form; its last byte is a line feed. Each form writes the same plan:
-/// [`plan_lines`], [`tree_plan_json`], [`plan_dot`], [`plan_promela`], [`tree_as_rust`] or
-/// [`tree_as_c`].
+/// The text of a plan tree in a style; its last byte is a line feed. Each form writes the same plan:
+/// [`plan_lines`], [`tree_plan_json`], [`plan_dot`], [`plan_promela`], [`tree_as_rust`],
+/// [`tree_as_c`] or [`tree_as_header`]. Programs also have the object, if there is one.
 ///
 /// # Errors
 ///
 /// `AllocError` if memory runs out.
-pub fn tree_as(alloc: Global, plan: &TreePlan, form: PlanForm) -> Result<String, AllocError>
+pub fn tree_as(
+    alloc: Global,
+    plan: &TreePlan,
+    style: &PlanStyle,
+    object: Option<&Served>,
+) -> Result<String, AllocError>
     // promise: forms-of-a-plan-tree (tree_text: plan_text, tree_plan_data, plan_dot, plan_promela,
-    //     tree_rust_text, tree_c_text)
-    ensures { IfOk result (λ text. string_bytes text ≡ tree_text form plan.now) }
+    //     tree_rust_text, tree_c_text, tree_header_text)
+    ensures { IfOk result (λ text. string_bytes text
+        ≡ tree_text style.now (option_copied object.entry) plan.now) }
 {
-    match form {
-        PlanForm::Text => plan_lines(alloc, plan),
-        PlanForm::Json => with_line_feed(tree_plan_json(alloc, plan)?),
-        PlanForm::Dot => plan_dot(alloc, plan),
-        PlanForm::Promela => plan_promela(alloc, plan),
-        PlanForm::Rust => tree_as_rust(alloc, plan),
-        PlanForm::C => tree_as_c(alloc, plan),
+    match style {
+        PlanStyle::Text => plan_lines(alloc, plan),
+        PlanStyle::Json => with_line_feed(tree_plan_json(alloc, plan)?),
+        PlanStyle::Dot => plan_dot(alloc, plan),
+        PlanStyle::Promela => plan_promela(alloc, plan),
+        PlanStyle::Rust => tree_as_rust(alloc, plan, object),
+        PlanStyle::C => tree_as_c(alloc, plan, object, None),
+        PlanStyle::ExternalC(prefix) => tree_as_c(alloc, plan, object, Some(prefix)),
+        PlanStyle::Header(prefix) => tree_as_header(alloc, plan, object, prefix),
     }
 }
 
-/// Writes a plan tree in a form.
-fn tree_report(alloc: Global, plan: &TreePlan, form: PlanForm) -> Result<Report, AppFault>
-    ensures { IsTreeReport plan.now form result }
+/// Writes a plan tree in a style.
+fn tree_report(
+    alloc: Global,
+    plan: &TreePlan,
+    style: &PlanStyle,
+    object: Option<&Served>,
+) -> Result<Report, AppFault>
+    ensures { IsTreeReport plan.now style.now (option_copied object.entry) result }
 {
-    Ok(Report::whole(tree_as(alloc, plan, form)?))
+    Ok(Report::whole(tree_as(alloc, plan, style, object)?))
 }
 
-/// The shortest plan of the table in a form, for as many processes as asked for, or for the most for
+/// The shortest plan of the table in a style, for as many processes as asked for, or for the most for
 /// which there is a plan tree; of all such plans, or of those whose processes do not read.
 ///
 /// # Errors
@@ -53,10 +67,31 @@ pub fn show_shortest_report(
     alloc: Global,
     table: &Table,
     asked: AskedPlan,
-    form: PlanForm,
+    style: &PlanStyle,
 ) -> Result<Report, AppFault>
-    ensures { IsShowShortestReport table.now asked form result }
+    ensures { IsShowShortestReport table.now asked style.now result }
 {
     let plan = plan_for(alloc, table, asked)?;
-    tree_report(alloc, &plan, form)
+    tree_report(alloc, &plan, style, None)
+}
+
+/// The same with the object of this table, which starts in the state of this name.
+///
+/// # Errors
+///
+/// The first of these: those of [`show_shortest_report`]; `Argument(Start)` if the object has no
+/// state of this name.
+pub fn show_shortest_object_report(
+    alloc: Global,
+    table: &Table,
+    object: Table,
+    start: &str,
+    asked: AskedPlan,
+    style: &PlanStyle,
+) -> Result<Report, AppFault>
+    ensures { IsShowShortestObjectReport table.now object start.now asked style.now result }
+{
+    let tree = plan_for(alloc, table, asked)?;
+    let served = served_from(object, start)?;
+    tree_report(alloc, &tree, style, Some(&served))
 }

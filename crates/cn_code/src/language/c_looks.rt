@@ -3,19 +3,25 @@ ghost use Rattle.std.specs.Prelude.{◌≡◌};
 ghost use Rattle.cn_code.specs.LookCWords.{c_mixed_word, c_response_word};
 
 use crate::language::OwnPart;
-use crate::language::c_tournament::READ;
-use crate::language::c_tree::{MEET, ZEROS};
+use crate::language::c_tournament::{CHECK_OPERATION, READ};
+use crate::language::c_tree::BLIND_CHECK_OPERATION;
+
+const RESPONSE_MEET: &str = "\
+at the nodes of a tree: each node has an object, and a
+ * register for each of its teams.";
 
 const RESPONSE_BOUND: &str = "\
 three steps at each of its
- * places, or four where it looks: at most CONSENSUS_STEPS until it decides, whatever the others do.
+ * places, or four where it looks: at most ^_STEPS until it decides, whatever the others do.
  * To look is to apply one more operation, which changes no state, and to get its response. No
  * process reads an object.";
 
-const RESPONSE_TYPES_ABOVE: &str = "\
+const RESPONSE_PLACE: &str = "\
+};
+
 /* A place of a process: its node, its team and operation there, the operation by which it looks at
  * the object, or -1 if it does not, and its judgement. */
-struct consensus_place {
+struct @_place {
     unsigned process;
     unsigned node;
     unsigned team;
@@ -23,7 +29,6 @@ struct consensus_place {
     int look;
     unsigned judgement;
 };
-
 ";
 
 const RESPONSE_JUDGEMENTS: &str = "\
@@ -32,8 +37,8 @@ const RESPONSE_JUDGEMENTS: &str = "\
 /* The judgements: for each response, and each response to the look where the process looks, the
  * team that came first at the node. The comment names the response. Places at which processes judge
  * alike have one judgement. */
-static const unsigned consensus_judgements[][CONSENSUS_LENGTH(consensus_responses)]
-    [CONSENSUS_LENGTH(consensus_responses)] = {
+static const unsigned @_judgements[][^_LENGTH(@_responses)]
+    [^_LENGTH(@_responses)] = {
 ";
 
 const RESPONSE_JUDGE: &str = "\
@@ -42,19 +47,27 @@ const RESPONSE_JUDGE: &str = "\
         unsigned seen = 0;
         if (place->look >= 0)
             seen = node->object.apply(node->object.self, (unsigned)place->look);
-        unsigned first = consensus_judgements[place->judgement][response][seen];
+        if (seen >= ^_LENGTH(@_responses))
+            return false;
+        unsigned first = @_judgements[place->judgement][response][seen];
         /* Last step";
+
+const MIXED_MEET: &str = "\
+at the nodes of a tree: each node has an object, and a
+ * register for each of its teams.";
 
 const MIXED_BOUND: &str = "\
 three steps at each of its
- * places, or four where it looks: at most CONSENSUS_STEPS until it decides, whatever the others do.
+ * places, or four where it looks: at most ^_STEPS until it decides, whatever the others do.
  * To look is to read the object, or to apply one more operation, which changes no state, and to get
  * its response.";
 
-const MIXED_TYPES_ABOVE: &str = "\
+const MIXED_PLACE: &str = "\
+};
+
 /* A place of a process: its node, its team and operation there, whether it looks at the object, the
  * operation by which it looks, or -1 if it reads the state or does not look, and its judgement. */
-struct consensus_place {
+struct @_place {
     unsigned process;
     unsigned node;
     unsigned team;
@@ -63,7 +76,6 @@ struct consensus_place {
     int look;
     unsigned judgement;
 };
-
 ";
 
 const MIXED_JUDGEMENTS: &str = "\
@@ -72,9 +84,9 @@ const MIXED_JUDGEMENTS: &str = "\
 /* The judgements: for each response, and each state or response that the process sees where it
  * looks, the team that came first at the node. The comment names the response. Places at which
  * processes judge alike have one judgement. */
-static const unsigned consensus_judgements[][CONSENSUS_LENGTH(consensus_responses)]
-    [CONSENSUS_LENGTH(consensus_states) > CONSENSUS_LENGTH(consensus_responses)
-        ? CONSENSUS_LENGTH(consensus_states) : CONSENSUS_LENGTH(consensus_responses)] = {
+static const unsigned @_judgements[][^_LENGTH(@_responses)]
+    [^_LENGTH(@_states) > ^_LENGTH(@_responses)
+        ? ^_LENGTH(@_states) : ^_LENGTH(@_responses)] = {
 ";
 
 const MIXED_JUDGE: &str = "\
@@ -85,7 +97,9 @@ const MIXED_JUDGE: &str = "\
             seen = node->object.apply(node->object.self, (unsigned)place->look);
         else if (place->looks)
             seen = node->object.read(node->object.self);
-        unsigned first = consensus_judgements[place->judgement][response][seen];
+        if (seen >= ^_LENGTH(@_judgements[0][0]))
+            return false;
+        unsigned first = @_judgements[place->judgement][response][seen];
         /* Last step";
 
 /// Where some process looks by an operation, and none reads.
@@ -93,21 +107,16 @@ pub(super) fn c_response_word(part: OwnPart) -> &'static str
     ensures { result.now ≡ c_response_word part }
 {
     match part {
-        OwnPart::Meet => MEET,
+        OwnPart::Meet => RESPONSE_MEET,
         OwnPart::Bound => RESPONSE_BOUND,
-        OwnPart::Uses => "",
-        OwnPart::TypesAbove => RESPONSE_TYPES_ABOVE,
+        OwnPart::Read => "",
         OwnPart::Figure => "tree",
+        OwnPart::Place => RESPONSE_PLACE,
         OwnPart::Judgements => RESPONSE_JUDGEMENTS,
         OwnPart::Row => "        {",
         OwnPart::ResponseName => "}, /* ",
-        OwnPart::Read => "",
-        OwnPart::TypesBelow => "",
-        OwnPart::Registers => "CONSENSUS_TEAMS",
-        OwnPart::Objects => "for each node an object in its state of consensus_starts",
-        OwnPart::Zeros => ZEROS,
-        OwnPart::Index => "",
         OwnPart::Judge => RESPONSE_JUDGE,
+        OwnPart::CheckOperation => BLIND_CHECK_OPERATION,
     }
 }
 
@@ -116,20 +125,15 @@ pub(super) fn c_mixed_word(part: OwnPart) -> &'static str
     ensures { result.now ≡ c_mixed_word part }
 {
     match part {
-        OwnPart::Meet => MEET,
+        OwnPart::Meet => MIXED_MEET,
         OwnPart::Bound => MIXED_BOUND,
-        OwnPart::Uses => "#include <stdbool.h>\n",
-        OwnPart::TypesAbove => MIXED_TYPES_ABOVE,
+        OwnPart::Read => READ,
         OwnPart::Figure => "tree",
+        OwnPart::Place => MIXED_PLACE,
         OwnPart::Judgements => MIXED_JUDGEMENTS,
         OwnPart::Row => "        {",
         OwnPart::ResponseName => "}, /* ",
-        OwnPart::Read => READ,
-        OwnPart::TypesBelow => "",
-        OwnPart::Registers => "CONSENSUS_TEAMS",
-        OwnPart::Objects => "for each node an object in its state of consensus_starts",
-        OwnPart::Zeros => ZEROS,
-        OwnPart::Index => "",
         OwnPart::Judge => MIXED_JUDGE,
+        OwnPart::CheckOperation => CHECK_OPERATION,
     }
 }

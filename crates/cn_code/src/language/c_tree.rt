@@ -2,41 +2,24 @@
 ghost use Rattle.std.specs.Prelude.{◌≡◌};
 ghost use Rattle.cn_code.specs.TreeCWords.{c_blind_word, c_look_word, c_tree_word};
 
-use crate::language::c_tournament::READ;
+use crate::language::c_tournament::{CHECK_OPERATION, READ};
 use crate::language::{OwnPart, TreePart};
 
-const TEAMS: &str = "\n\n\
-/* The number of registers of each node: the most teams that a node has. */
-#define CONSENSUS_TEAMS ";
-
-const STEPS: &str = "\n\n\
-/* The most steps that a process takes until it decides. */
-#define CONSENSUS_STEPS ";
-
-const STARTS: &str = "\
-};
-
-/* The state in which the object of each node starts. */
-const unsigned consensus_starts[CONSENSUS_NODES] = {
-";
-
-pub(super) const MEET: &str = "\
+const LOOK_MEET: &str = "\
 at the nodes of a tree: each node has an object, and a
  * register for each of its teams.";
 
-pub(super) const ZEROS: &str = "\
-for (unsigned team = 0; team < CONSENSUS_TEAMS; team++)
-            atomic_init(&node->registers[team], 0);";
-
 const LOOK_BOUND: &str = "\
 three steps at each of its
- * places, or four where it looks: at most CONSENSUS_STEPS until it decides, whatever the others
+ * places, or four where it looks: at most ^_STEPS until it decides, whatever the others
  * do.";
 
-const LOOK_TYPES_ABOVE: &str = "\
+const LOOK_PLACE: &str = "\
+};
+
 /* A place of a process: its node, its team and operation there, whether it looks at the object, and
  * its judgement. */
-struct consensus_place {
+struct @_place {
     unsigned process;
     unsigned node;
     unsigned team;
@@ -44,7 +27,6 @@ struct consensus_place {
     bool looks;
     unsigned judgement;
 };
-
 ";
 
 const LOOK_JUDGEMENTS: &str = "\
@@ -53,32 +35,39 @@ const LOOK_JUDGEMENTS: &str = "\
 /* The judgements: for each response, and each state where the process looks, the team that came
  * first at the node. The comment names the response. Places at which processes judge alike have
  * one judgement. */
-static const unsigned consensus_judgements[][CONSENSUS_LENGTH(consensus_responses)]
-    [CONSENSUS_LENGTH(consensus_states)] = {
+static const unsigned @_judgements[][^_LENGTH(@_responses)]
+    [^_LENGTH(@_states)] = {
 ";
 
 const LOOK_JUDGE: &str = "\
 /* Step 3, where the process looks: read the object. The response, and the state that was
          * read, tell which team came first. */
         unsigned state = place->looks ? node->object.read(node->object.self) : 0;
-        unsigned first = consensus_judgements[place->judgement][response][state];
+        if (state >= ^_LENGTH(@_states))
+            return false;
+        unsigned first = @_judgements[place->judgement][response][state];
         /* Last step";
+
+const BLIND_MEET: &str = "\
+at the nodes of a tree: each node has an object, and a
+ * register for each of its teams.";
 
 const BLIND_BOUND: &str = "\
 three steps at each of its
- * places: at most CONSENSUS_STEPS until it decides, whatever the others do. No process reads an
+ * places: at most ^_STEPS until it decides, whatever the others do. No process reads an
  * object.";
 
-const BLIND_TYPES_ABOVE: &str = "\
+const BLIND_PLACE: &str = "\
+};
+
 /* A place of a process: its node, and its team, operation and judgement there. */
-struct consensus_place {
+struct @_place {
     unsigned process;
     unsigned node;
     unsigned team;
     unsigned operation;
     unsigned judgement;
 };
-
 ";
 
 const BLIND_JUDGEMENTS: &str = "\
@@ -86,24 +75,48 @@ const BLIND_JUDGEMENTS: &str = "\
 
 /* The judgements: for each response the team that came first at the node. The comment names the
  * response. Places at which processes judge alike have one judgement. */
-static const unsigned consensus_judgements[][CONSENSUS_LENGTH(consensus_responses)] = {
+static const unsigned @_judgements[][^_LENGTH(@_responses)] = {
 ";
 
 const BLIND_JUDGE: &str = "\
 /* The response tells which team came first. */
-        unsigned first = consensus_judgements[place->judgement][response];
+        unsigned first = @_judgements[place->judgement][response];
         /* Step 3";
+
+pub(super) const BLIND_CHECK_OPERATION: &str = "\
+/* Checks one operation behind a way. */
+static inline struct @_difference @_check_operation(struct @_way way,
+    unsigned operation, @_make *make, void *of)
+{
+    const struct @_transition *told = &@_transitions[operation][way.state];
+    struct @_difference it = {0, @_operations[operation], @_states[way.state], 0, 0, 0};
+    struct @_object object = @_come(way, make, of);
+    unsigned response = object.apply(object.self, operation);
+    if (response != told->response) {
+        it.what = \"the response\";
+        it.found = @_response_name(response);
+        it.expected = @_responses[told->response];
+        return it;
+    }
+    for (unsigned probe = 0; probe < ^_LENGTH(@_operations) && !it.what; probe++) {
+        object = @_come(@_then(way, operation), make, of);
+        unsigned found = object.apply(object.self, probe);
+        unsigned expected = @_transitions[probe][told->next].response;
+        if (found != expected) {
+            it.what = \"the response of the next operation\";
+            it.next = @_operations[probe];
+            it.found = @_response_name(found);
+            it.expected = @_responses[expected];
+        }
+    }
+    return it;
+}
+";
 
 pub(super) fn c_tree_word(part: TreePart) -> &'static str
     ensures { result.now ≡ c_tree_word part }
 {
     match part {
-        TreePart::Teams => TEAMS,
-        TreePart::Steps => STEPS,
-        TreePart::Starts => STARTS,
-        TreePart::StartState => "    ",
-        TreePart::StartNode => ", /* node ",
-        TreePart::StartName => ": ",
         TreePart::LooksField => ", .looks = ",
         TreePart::LookField => ", .look = ",
         TreePart::LookEnd => "",
@@ -119,21 +132,16 @@ pub(super) fn c_look_word(part: OwnPart) -> &'static str
     ensures { result.now ≡ c_look_word part }
 {
     match part {
-        OwnPart::Meet => MEET,
+        OwnPart::Meet => LOOK_MEET,
         OwnPart::Bound => LOOK_BOUND,
-        OwnPart::Uses => "#include <stdbool.h>\n",
-        OwnPart::TypesAbove => LOOK_TYPES_ABOVE,
+        OwnPart::Read => READ,
         OwnPart::Figure => "tree",
+        OwnPart::Place => LOOK_PLACE,
         OwnPart::Judgements => LOOK_JUDGEMENTS,
         OwnPart::Row => "        {",
         OwnPart::ResponseName => "}, /* ",
-        OwnPart::Read => READ,
-        OwnPart::TypesBelow => "",
-        OwnPart::Registers => "CONSENSUS_TEAMS",
-        OwnPart::Objects => "for each node an object in its state of consensus_starts",
-        OwnPart::Zeros => ZEROS,
-        OwnPart::Index => "",
         OwnPart::Judge => LOOK_JUDGE,
+        OwnPart::CheckOperation => CHECK_OPERATION,
     }
 }
 
@@ -142,20 +150,15 @@ pub(super) fn c_blind_word(part: OwnPart) -> &'static str
     ensures { result.now ≡ c_blind_word part }
 {
     match part {
-        OwnPart::Meet => MEET,
+        OwnPart::Meet => BLIND_MEET,
         OwnPart::Bound => BLIND_BOUND,
-        OwnPart::Uses => "",
-        OwnPart::TypesAbove => BLIND_TYPES_ABOVE,
+        OwnPart::Read => "",
         OwnPart::Figure => "tree",
+        OwnPart::Place => BLIND_PLACE,
         OwnPart::Judgements => BLIND_JUDGEMENTS,
         OwnPart::Row => "        ",
         OwnPart::ResponseName => ", /* ",
-        OwnPart::Read => "",
-        OwnPart::TypesBelow => "",
-        OwnPart::Registers => "CONSENSUS_TEAMS",
-        OwnPart::Objects => "for each node an object in its state of consensus_starts",
-        OwnPart::Zeros => ZEROS,
-        OwnPart::Index => "",
         OwnPart::Judge => BLIND_JUDGE,
+        OwnPart::CheckOperation => BLIND_CHECK_OPERATION,
     }
 }

@@ -3,26 +3,22 @@ ghost use Rattle.std.specs.Prelude.{◌≡◌};
 ghost use Rattle.cn_code.specs.LookRustWords.{rust_mixed_word, rust_response_word};
 
 use crate::language::OwnPart;
-use crate::language::rust_tournament::READ;
-use crate::language::rust_tree::MEET;
+use crate::language::rust_tournament::{CHECK_OPERATION, READ};
+use crate::language::rust_tree::BLIND_CHECK_OPERATION;
+
+const RESPONSE_MEET: &str = "\
+at the nodes of a tree: each node has an object, and a
+// register for each of its teams.";
 
 const RESPONSE_BOUND: &str = "\
 three steps at each of its
-//! places, or four where it looks: at most `STEPS` until it decides, whatever the others do. To
-//! look is to apply one more operation, which changes no state, and to get its response. No process
-//! reads an object.";
+// places, or four where it looks: at most `STEPS` until it decides, whatever the others do. To
+// look is to apply one more operation, which changes no state, and to get its response. No process
+// reads an object.";
 
-const RESPONSE_JUDGEMENTS: &str = "\
+const RESPONSE_PLACE: &str = "\
 ];
 
-/// The judgements: for each response, and each response to the look where the process looks, the
-/// team that came first at the node. The comment names the response. Places at which processes
-/// judge alike have one judgement.
-#[rustfmt::skip]
-const JUDGEMENTS: &[[&[usize]; RESPONSES.len()]] = &[
-";
-
-const RESPONSE_TYPES_BELOW: &str = "\
 /// A place of a process: its node, its team and operation there, the operation by which it looks at
 /// the object, if it does, and its judgement.
 struct Place {
@@ -33,7 +29,16 @@ struct Place {
     look: Option<usize>,
     judgement: usize,
 }
+";
 
+const RESPONSE_JUDGEMENTS: &str = "\
+];
+
+/// The judgements: for each response, and each response to the look where the process looks, the
+/// team that came first at the node. The comment names the response. Places at which processes
+/// judge alike have one judgement.
+#[rustfmt::skip]
+const JUDGEMENTS: &[[&[usize]; RESPONSES.len()]] = &[
 ";
 
 const RESPONSE_JUDGE: &str = "\
@@ -46,23 +51,19 @@ const RESPONSE_JUDGE: &str = "\
             let first = JUDGEMENTS[place.judgement][response][seen];
             // Last step";
 
+const MIXED_MEET: &str = "\
+at the nodes of a tree: each node has an object, and a
+// register for each of its teams.";
+
 const MIXED_BOUND: &str = "\
 three steps at each of its
-//! places, or four where it looks: at most `STEPS` until it decides, whatever the others do. To
-//! look is to read the object, or to apply one more operation, which changes no state, and to get
-//! its response.";
+// places, or four where it looks: at most `STEPS` until it decides, whatever the others do. To
+// look is to read the object, or to apply one more operation, which changes no state, and to get
+// its response.";
 
-const MIXED_JUDGEMENTS: &str = "\
+const MIXED_PLACE: &str = "\
 ];
 
-/// The judgements: for each response, and each state or response that the process sees where it
-/// looks, the team that came first at the node. The comment names the response. Places at which
-/// processes judge alike have one judgement.
-#[rustfmt::skip]
-const JUDGEMENTS: &[[&[usize]; RESPONSES.len()]] = &[
-";
-
-const MIXED_TYPES_BELOW: &str = "\
 /// A place of a process: its node, its team and operation there, whether it looks at the object,
 /// the operation by which it looks, if it does not read the state, and its judgement.
 struct Place {
@@ -74,7 +75,16 @@ struct Place {
     look: Option<usize>,
     judgement: usize,
 }
+";
 
+const MIXED_JUDGEMENTS: &str = "\
+];
+
+/// The judgements: for each response, and each state or response that the process sees where it
+/// looks, the team that came first at the node. The comment names the response. Places at which
+/// processes judge alike have one judgement.
+#[rustfmt::skip]
+const JUDGEMENTS: &[[&[usize]; RESPONSES.len()]] = &[
 ";
 
 const MIXED_JUDGE: &str = "\
@@ -94,21 +104,16 @@ pub(super) fn rust_response_word(part: OwnPart) -> &'static str
     ensures { result.now ≡ rust_response_word part }
 {
     match part {
-        OwnPart::Meet => MEET,
+        OwnPart::Meet => RESPONSE_MEET,
         OwnPart::Bound => RESPONSE_BOUND,
-        OwnPart::Uses => "use std::array;\n",
-        OwnPart::TypesAbove => "",
+        OwnPart::Read => "",
         OwnPart::Figure => "tree",
+        OwnPart::Place => RESPONSE_PLACE,
         OwnPart::Judgements => RESPONSE_JUDGEMENTS,
         OwnPart::Row => "        &[",
         OwnPart::ResponseName => "], // ",
-        OwnPart::Read => "",
-        OwnPart::TypesBelow => RESPONSE_TYPES_BELOW,
-        OwnPart::Registers => "TEAMS",
-        OwnPart::Objects => "for each node an object in its state of `STARTS`",
-        OwnPart::Zeros => "array::from_fn(|_| AtomicU64::new(0))",
-        OwnPart::Index => "",
         OwnPart::Judge => RESPONSE_JUDGE,
+        OwnPart::CheckOperation => BLIND_CHECK_OPERATION,
     }
 }
 
@@ -117,20 +122,15 @@ pub(super) fn rust_mixed_word(part: OwnPart) -> &'static str
     ensures { result.now ≡ rust_mixed_word part }
 {
     match part {
-        OwnPart::Meet => MEET,
+        OwnPart::Meet => MIXED_MEET,
         OwnPart::Bound => MIXED_BOUND,
-        OwnPart::Uses => "use std::array;\n",
-        OwnPart::TypesAbove => "",
+        OwnPart::Read => READ,
         OwnPart::Figure => "tree",
+        OwnPart::Place => MIXED_PLACE,
         OwnPart::Judgements => MIXED_JUDGEMENTS,
         OwnPart::Row => "        &[",
         OwnPart::ResponseName => "], // ",
-        OwnPart::Read => READ,
-        OwnPart::TypesBelow => MIXED_TYPES_BELOW,
-        OwnPart::Registers => "TEAMS",
-        OwnPart::Objects => "for each node an object in its state of `STARTS`",
-        OwnPart::Zeros => "array::from_fn(|_| AtomicU64::new(0))",
-        OwnPart::Index => "",
         OwnPart::Judge => MIXED_JUDGE,
+        OwnPart::CheckOperation => CHECK_OPERATION,
     }
 }

@@ -1,52 +1,41 @@
 //! The head of a plan tree's program.
-ghost use Rattle.std.specs.Prelude.{◌≡◌, ◌++◌, OnOk, string_bytes};
-ghost use Rattle.cn_code.specs.Trees.{bounds_code, form_of, most_teams, tree_head};
+ghost use Rattle.std.specs.Prelude.{◌≡◌, ◌++◌, OnOk, option_copied, string_bytes};
+ghost use Rattle.cn_code.specs.Trees.{form_of, most_teams, tree_counts, tree_head};
 
-use crate::frame::push_numbers;
-use crate::language::{Form, Language, Part, TreePart};
+use crate::frame::{Counts, push_counts, push_interface, push_intro, push_title};
+use crate::language::{Form, Language};
+use crate::served::Served;
 use crate::tree::sights::{some_read, some_response};
-use crate::words::push_number;
 use cn_tree_plans::TreePlan;
 use std::alloc::AllocError;
 
-/// The type, the numbers of processes and nodes, and the bounds.
+/// Up to the tables.
 pub(crate) fn push_head(
     text: &mut String,
     language: Language,
     plan: &TreePlan,
+    object: Option<&Served>,
 ) -> Result<(), AllocError>
-    ensures { OnOk result (string_bytes text.new
-        ≡ string_bytes text.old ++ tree_head language plan.now) }
+    ensures { OnOk result (string_bytes text.new ≡ string_bytes text.old
+        ++ tree_head language plan.now (option_copied object.entry)) }
 {
-    let name = plan.table().name();
-    push_numbers(
-        text,
-        language,
-        form_of(plan),
-        name,
-        plan.processes(),
-        plan.nodes(),
-    )?;
-    push_bounds(text, language, plan)
+    let (name, form) = (plan.table().name(), form_of(plan));
+    push_title(text, language, name, plan.processes(), object)?;
+    push_intro(text, language, form, object)?;
+    push_counts(text, language, counts_of(plan))?;
+    push_interface(text, language, form, object)
 }
 
-/// The most teams of a node, and the most steps of a process.
-fn push_bounds(text: &mut String, language: Language, plan: &TreePlan) -> Result<(), AllocError>
-    ensures { OnOk result (string_bytes text.new
-        ≡ string_bytes text.old ++ bounds_code language plan.now) }
+/// The numbers of the program.
+fn counts_of(plan: &TreePlan) -> Counts
+    ensures { result ≡ tree_counts plan.now }
 {
-    push_number(
-        text,
-        language,
-        Part::InTree(TreePart::Teams),
-        most_teams(plan),
-    )?;
-    push_number(
-        text,
-        language,
-        Part::InTree(TreePart::Steps),
-        plan.cost().steps,
-    )
+    Counts {
+        processes: plan.processes(),
+        nodes: plan.nodes(),
+        teams: most_teams(plan),
+        steps: plan.cost().steps,
+    }
 }
 
 #[tactic(auto, using(crate::proofs::Loops::greatest_more))]

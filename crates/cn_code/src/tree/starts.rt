@@ -2,10 +2,11 @@
 ghost use Rattle.std.specs.Prelude.{◌≡◌, ◌<◌, ◌++◌, OnOk, length, string_bytes};
 ghost use Rattle.cn_trees.specs.Tree.{nodes_of};
 ghost use Rattle.cn_tree_plans.specs.Plan.{tree_of};
-ghost use Rattle.cn_code.specs.Trees.{start_at, start_line, starts_code};
+ghost use Rattle.cn_code.specs.Trees.{start_at, tree_start, tree_starts};
 
-use crate::language::{Language, Part, TreePart};
-use crate::words::{push_number, push_text, push_word};
+use crate::frame::push_start_line;
+use crate::language::{Language, Part};
+use crate::words::push_word;
 use cn_table::State;
 use cn_tree_plans::TreePlan;
 use std::alloc::AllocError;
@@ -18,16 +19,16 @@ pub(crate) fn push_starts(
     plan: &TreePlan,
 ) -> Result<(), AllocError>
     ensures { OnOk result (string_bytes text.new
-        ≡ string_bytes text.old ++ starts_code language plan.now) }
+        ≡ string_bytes text.old ++ tree_starts language plan.now) }
 {
-    push_word(text, language, Part::InTree(TreePart::Starts))?;
+    push_word(text, language, Part::Starts)?;
     for node in 0..plan.nodes() {
-        push_start_line(text, language, plan, node)?;
+        push_start(text, language, plan, node)?;
     }
     Ok(())
 }
 
-fn push_start_line(
+fn push_start(
     text: &mut String,
     language: Language,
     plan: &TreePlan,
@@ -35,18 +36,9 @@ fn push_start_line(
 ) -> Result<(), AllocError>
     requires { node < nodes_of (tree_of plan.now) }
     ensures { OnOk result (string_bytes text.new
-        ≡ string_bytes text.old ++ start_line language plan.now node) }
+        ≡ string_bytes text.old ++ tree_start language plan.now node) }
 {
-    let start = start_at(plan, node);
-    push_number(text, language, Part::InTree(TreePart::StartState), start.0)?;
-    push_number(text, language, Part::InTree(TreePart::StartNode), node)?;
-    push_text(
-        text,
-        language,
-        Part::InTree(TreePart::StartName),
-        plan.table().state_name(start),
-    )?;
-    push_word(text, language, Part::LineEnd)
+    push_start_line(text, language, plan.table(), start_at(plan, node), node)
 }
 
 fn start_at(plan: &TreePlan, node: u8) -> State

@@ -13,10 +13,10 @@ returns-in_err-optional_number c = rw c.from_residual-in_err-optional_number.ens
     let w = plan_wants (rows_in c.args.words.now) invocation c.requires.shortest is in
     c.in_err-optional_number.ensures w.1.0 w.1.1)
 
-pub returns-in_err-form : goal.returns-in_err-form
-returns-in_err-form c = rw c.from_residual-in_err-form.ensures (λ invocation is.
+pub returns-in_err-plan_words : goal.returns-in_err-plan_words
+returns-in_err-plan_words c = rw c.from_residual-in_err-plan_words.ensures (λ invocation is.
     let w = plan_wants (rows_in c.args.words.now) invocation c.requires.shortest is in
-    c.in_err-form.ensures w.2.0 w.2.1)
+    c.in_err-plan_words.ensures w.2.0 w.2.1)
 
 pub returns : goal.returns
-returns c = (refl, c.requires.shortest, c.requires.lasting, c.is_flag_set.ensures, c.in_ok-plan_table.ensures, c.in_ok-optional_number.ensures, c.in_ok-form.ensures)
+returns c = (refl, c.requires.shortest, c.requires.lasting, c.is_flag_set.ensures, c.in_ok-plan_table.ensures, c.in_ok-optional_number.ensures, c.in_ok-plan_words.ensures)

@@ -102,17 +102,7 @@ pub returns-in-Show : goal.returns-in-Show
 returns-in-Show g c =
     let given : Some c.in-Show.certificate ≡ Some c.args.source = ap certificate_of (sym c.in-Show.is) ∙ c.requires.command in
     let same : c.in-Show.certificate ≡ c.args.source = cc in
-    rw c.in-Show.is (
-      c.text_of-certificate.result,
-      rw same c.text_of-certificate.ensures,
-      record {
-        table_after = c.show-end.new.table;
-        certificate_after = c.show-end.new.certificate;
-        read = c.show-end.ensures.read;
-        order = inr tt;
-        reported = rw c.noting_table-in-Show.ensures c.show-end.ensures.shown;
-      },
-    )
+    rw c.in-Show.is (c.text_of-certificate.result, rw same c.text_of-certificate.ensures, c.show.ensures)
 
 pub returns-in-Agree : goal.returns-in-Agree
 returns-in-Agree g c =

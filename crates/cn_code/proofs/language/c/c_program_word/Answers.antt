@@ -6,37 +6,21 @@ pub returns-in-Object : goal.returns-in-Object
 unfolding c_program_word
 returns-in-Object c = sym (ap c_program_word c.in-Object.is)
 
-pub returns-in-ObjectEnd : goal.returns-in-ObjectEnd
-unfolding c_program_word
-returns-in-ObjectEnd c = sym (ap c_program_word c.in-ObjectEnd.is)
-
 pub returns-in-Node : goal.returns-in-Node
 unfolding c_program_word
 returns-in-Node c = sym (ap c_program_word c.in-Node.is)
 
-pub returns-in-NodeFields : goal.returns-in-NodeFields
+pub returns-in-Steps : goal.returns-in-Steps
 unfolding c_program_word
-returns-in-NodeFields c = sym (ap c_program_word c.in-NodeFields.is)
-
-pub returns-in-Consensus : goal.returns-in-Consensus
-unfolding c_program_word
-returns-in-Consensus c = sym (ap c_program_word c.in-Consensus.is)
-
-pub returns-in-New : goal.returns-in-New
-unfolding c_program_word
-returns-in-New c = sym (ap c_program_word c.in-New.is)
-
-pub returns-in-Decide : goal.returns-in-Decide
-unfolding c_program_word
-returns-in-Decide c = sym (ap c_program_word c.in-Decide.is)
-
-pub returns-in-Apply : goal.returns-in-Apply
-unfolding c_program_word
-returns-in-Apply c = sym (ap c_program_word c.in-Apply.is)
+returns-in-Steps c = sym (ap c_program_word c.in-Steps.is)
 
 pub returns-in-Take : goal.returns-in-Take
 unfolding c_program_word
 returns-in-Take c = sym (ap c_program_word c.in-Take.is)
+
+pub returns-in-CheckEnd : goal.returns-in-CheckEnd
+unfolding c_program_word
+returns-in-CheckEnd c = sym (ap c_program_word c.in-CheckEnd.is)
 
 pub returns-in-End : goal.returns-in-End
 unfolding c_program_word

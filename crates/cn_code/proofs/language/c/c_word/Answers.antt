@@ -18,13 +18,13 @@ pub returns-in-Claims : goal.returns-in-Claims
 unfolding c_word
 returns-in-Claims c = sym (ap c_word c.in-Claims.is)
 
-pub returns-in-FirstUses : goal.returns-in-FirstUses
+pub returns-in-Trust : goal.returns-in-Trust
 unfolding c_word
-returns-in-FirstUses c = sym (ap c_word c.in-FirstUses.is)
+returns-in-Trust c = sym (ap c_word c.in-Trust.is)
 
-pub returns-in-LastUses : goal.returns-in-LastUses
+pub returns-in-Uses : goal.returns-in-Uses
 unfolding c_word
-returns-in-LastUses c = sym (ap c_word c.in-LastUses.is)
+returns-in-Uses c = sym (ap c_word c.in-Uses.is)
 
 pub returns-in-Processes : goal.returns-in-Processes
 unfolding c_word
@@ -33,6 +33,14 @@ returns-in-Processes c = sym (ap c_word c.in-Processes.is)
 pub returns-in-Nodes : goal.returns-in-Nodes
 unfolding c_word
 returns-in-Nodes c = sym (ap c_word c.in-Nodes.is)
+
+pub returns-in-Teams : goal.returns-in-Teams
+unfolding c_word
+returns-in-Teams c = sym (ap c_word c.in-Teams.is)
+
+pub returns-in-Steps : goal.returns-in-Steps
+unfolding c_word
+returns-in-Steps c = sym (ap c_word c.in-Steps.is)
 
 pub returns-in-States : goal.returns-in-States
 unfolding c_word
@@ -53,6 +61,46 @@ returns-in-Name c = sym (ap c_word c.in-Name.is)
 pub returns-in-NameNumber : goal.returns-in-NameNumber
 unfolding c_word
 returns-in-NameNumber c = sym (ap c_word c.in-NameNumber.is)
+
+pub returns-in-Transitions : goal.returns-in-Transitions
+unfolding c_word
+returns-in-Transitions c = sym (ap c_word c.in-Transitions.is)
+
+pub returns-in-TransitionRow : goal.returns-in-TransitionRow
+unfolding c_word
+returns-in-TransitionRow c = sym (ap c_word c.in-TransitionRow.is)
+
+pub returns-in-TransitionResponse : goal.returns-in-TransitionResponse
+unfolding c_word
+returns-in-TransitionResponse c = sym (ap c_word c.in-TransitionResponse.is)
+
+pub returns-in-TransitionNext : goal.returns-in-TransitionNext
+unfolding c_word
+returns-in-TransitionNext c = sym (ap c_word c.in-TransitionNext.is)
+
+pub returns-in-TransitionEnd : goal.returns-in-TransitionEnd
+unfolding c_word
+returns-in-TransitionEnd c = sym (ap c_word c.in-TransitionEnd.is)
+
+pub returns-in-TransitionName : goal.returns-in-TransitionName
+unfolding c_word
+returns-in-TransitionName c = sym (ap c_word c.in-TransitionName.is)
+
+pub returns-in-Starts : goal.returns-in-Starts
+unfolding c_word
+returns-in-Starts c = sym (ap c_word c.in-Starts.is)
+
+pub returns-in-StartState : goal.returns-in-StartState
+unfolding c_word
+returns-in-StartState c = sym (ap c_word c.in-StartState.is)
+
+pub returns-in-StartNode : goal.returns-in-StartNode
+unfolding c_word
+returns-in-StartNode c = sym (ap c_word c.in-StartNode.is)
+
+pub returns-in-StartName : goal.returns-in-StartName
+unfolding c_word
+returns-in-StartName c = sym (ap c_word c.in-StartName.is)
 
 pub returns-in-Places : goal.returns-in-Places
 unfolding c_word
@@ -90,6 +138,10 @@ pub returns-in-JudgementEnd : goal.returns-in-JudgementEnd
 unfolding c_word
 returns-in-JudgementEnd c = sym (ap c_word c.in-JudgementEnd.is)
 
+pub returns-in-TablesEnd : goal.returns-in-TablesEnd
+unfolding c_word
+returns-in-TablesEnd c = sym (ap c_word c.in-TablesEnd.is)
+
 pub returns-in-LineEnd : goal.returns-in-LineEnd
 unfolding c_word
 returns-in-LineEnd c = sym (ap c_word c.in-LineEnd.is)
@@ -97,6 +149,14 @@ returns-in-LineEnd c = sym (ap c_word c.in-LineEnd.is)
 pub returns-in-Program : goal.returns-in-Program
 unfolding c_word
 returns-in-Program c = c.c_program_word.ensures ∙ sym (ap c_word c.in-Program.is)
+
+pub returns-in-Interface : goal.returns-in-Interface
+unfolding c_word
+returns-in-Interface c = c.c_interface_word.ensures ∙ sym (ap c_word c.in-Interface.is)
+
+pub returns-in-InObject : goal.returns-in-InObject
+unfolding c_word
+returns-in-InObject c = c.c_object_word.ensures ∙ sym (ap c_word c.in-InObject.is)
 
 pub returns-in-InTournament : goal.returns-in-InTournament
 unfolding c_word

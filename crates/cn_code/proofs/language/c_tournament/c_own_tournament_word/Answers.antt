@@ -10,17 +10,17 @@ pub returns-in-Bound : goal.returns-in-Bound
 unfolding c_own_tournament_word
 returns-in-Bound c = sym (ap c_own_tournament_word c.in-Bound.is)
 
-pub returns-in-Uses : goal.returns-in-Uses
+pub returns-in-Read : goal.returns-in-Read
 unfolding c_own_tournament_word
-returns-in-Uses c = sym (ap c_own_tournament_word c.in-Uses.is)
-
-pub returns-in-TypesAbove : goal.returns-in-TypesAbove
-unfolding c_own_tournament_word
-returns-in-TypesAbove c = sym (ap c_own_tournament_word c.in-TypesAbove.is)
+returns-in-Read c = sym (ap c_own_tournament_word c.in-Read.is)
 
 pub returns-in-Figure : goal.returns-in-Figure
 unfolding c_own_tournament_word
 returns-in-Figure c = sym (ap c_own_tournament_word c.in-Figure.is)
+
+pub returns-in-Place : goal.returns-in-Place
+unfolding c_own_tournament_word
+returns-in-Place c = sym (ap c_own_tournament_word c.in-Place.is)
 
 pub returns-in-Judgements : goal.returns-in-Judgements
 unfolding c_own_tournament_word
@@ -34,30 +34,10 @@ pub returns-in-ResponseName : goal.returns-in-ResponseName
 unfolding c_own_tournament_word
 returns-in-ResponseName c = sym (ap c_own_tournament_word c.in-ResponseName.is)
 
-pub returns-in-Read : goal.returns-in-Read
-unfolding c_own_tournament_word
-returns-in-Read c = sym (ap c_own_tournament_word c.in-Read.is)
-
-pub returns-in-TypesBelow : goal.returns-in-TypesBelow
-unfolding c_own_tournament_word
-returns-in-TypesBelow c = sym (ap c_own_tournament_word c.in-TypesBelow.is)
-
-pub returns-in-Registers : goal.returns-in-Registers
-unfolding c_own_tournament_word
-returns-in-Registers c = sym (ap c_own_tournament_word c.in-Registers.is)
-
-pub returns-in-Objects : goal.returns-in-Objects
-unfolding c_own_tournament_word
-returns-in-Objects c = sym (ap c_own_tournament_word c.in-Objects.is)
-
-pub returns-in-Zeros : goal.returns-in-Zeros
-unfolding c_own_tournament_word
-returns-in-Zeros c = sym (ap c_own_tournament_word c.in-Zeros.is)
-
-pub returns-in-Index : goal.returns-in-Index
-unfolding c_own_tournament_word
-returns-in-Index c = sym (ap c_own_tournament_word c.in-Index.is)
-
 pub returns-in-Judge : goal.returns-in-Judge
 unfolding c_own_tournament_word
 returns-in-Judge c = sym (ap c_own_tournament_word c.in-Judge.is)
+
+pub returns-in-CheckOperation : goal.returns-in-CheckOperation
+unfolding c_own_tournament_word
+returns-in-CheckOperation c = sym (ap c_own_tournament_word c.in-CheckOperation.is)

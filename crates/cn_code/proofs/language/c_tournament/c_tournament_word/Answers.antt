@@ -2,14 +2,6 @@ use Rattle.std.proofs.Common.{ap, sym}
 use Rattle.cn_code.specs.TournamentCWords.{c_tournament_word}
 use Rattle.cn_code.proofs.language.c_tournament.c_tournament_word.Goals as goal
 
-pub returns-in-Start : goal.returns-in-Start
-unfolding c_tournament_word
-returns-in-Start c = sym (ap c_tournament_word c.in-Start.is)
-
-pub returns-in-StartNumber : goal.returns-in-StartNumber
-unfolding c_tournament_word
-returns-in-StartNumber c = sym (ap c_tournament_word c.in-StartNumber.is)
-
 pub returns-in-RoleField : goal.returns-in-RoleField
 unfolding c_tournament_word
 returns-in-RoleField c = sym (ap c_tournament_word c.in-RoleField.is)

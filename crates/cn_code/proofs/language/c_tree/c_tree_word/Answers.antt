@@ -2,41 +2,9 @@ use Rattle.std.proofs.Common.{ap, sym}
 use Rattle.cn_code.specs.TreeCWords.{c_tree_word}
 use Rattle.cn_code.proofs.language.c_tree.c_tree_word.Goals as goal
 
-pub returns-in-Teams : goal.returns-in-Teams
-unfolding c_tree_word
-returns-in-Teams c = sym (ap c_tree_word c.in-Teams.is)
-
-pub returns-in-Steps : goal.returns-in-Steps
-unfolding c_tree_word
-returns-in-Steps c = sym (ap c_tree_word c.in-Steps.is)
-
-pub returns-in-Starts : goal.returns-in-Starts
-unfolding c_tree_word
-returns-in-Starts c = sym (ap c_tree_word c.in-Starts.is)
-
-pub returns-in-StartState : goal.returns-in-StartState
-unfolding c_tree_word
-returns-in-StartState c = sym (ap c_tree_word c.in-StartState.is)
-
-pub returns-in-StartNode : goal.returns-in-StartNode
-unfolding c_tree_word
-returns-in-StartNode c = sym (ap c_tree_word c.in-StartNode.is)
-
-pub returns-in-StartName : goal.returns-in-StartName
-unfolding c_tree_word
-returns-in-StartName c = sym (ap c_tree_word c.in-StartName.is)
-
 pub returns-in-LooksField : goal.returns-in-LooksField
 unfolding c_tree_word
 returns-in-LooksField c = sym (ap c_tree_word c.in-LooksField.is)
-
-pub returns-in-JudgementField : goal.returns-in-JudgementField
-unfolding c_tree_word
-returns-in-JudgementField c = sym (ap c_tree_word c.in-JudgementField.is)
-
-pub returns-in-JudgementNumber : goal.returns-in-JudgementNumber
-unfolding c_tree_word
-returns-in-JudgementNumber c = sym (ap c_tree_word c.in-JudgementNumber.is)
 
 pub returns-in-LookField : goal.returns-in-LookField
 unfolding c_tree_word
@@ -53,3 +21,11 @@ returns-in-NoLook c = sym (ap c_tree_word c.in-NoLook.is)
 pub returns-in-LookName : goal.returns-in-LookName
 unfolding c_tree_word
 returns-in-LookName c = sym (ap c_tree_word c.in-LookName.is)
+
+pub returns-in-JudgementField : goal.returns-in-JudgementField
+unfolding c_tree_word
+returns-in-JudgementField c = sym (ap c_tree_word c.in-JudgementField.is)
+
+pub returns-in-JudgementNumber : goal.returns-in-JudgementNumber
+unfolding c_tree_word
+returns-in-JudgementNumber c = sym (ap c_tree_word c.in-JudgementNumber.is)
