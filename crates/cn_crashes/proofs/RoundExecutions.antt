@@ -1,6 +1,6 @@
 -- Recoverable rounds while an execution runs: they agree, and a process that does not crash
 -- decides.
-use Rattle.std.proofs.Common.{◌≡◌, ◌≢◌, ℕ, ◌*◌, ◌-◌, ◌<◌, ◌≤◌, inl, inr, List, [], ◌∷◌, length}
+use Rattle.std.proofs.Common.{◌≡◌, ◌≢◌, ℕ, ◌*◌, ◌-◌, ◌<◌, ◌≤◌, inl, inr, List, [], ◌∷◌, ◌++◌, length}
 use Rattle.std.proofs.Common.{refl, sym, ap, ◌∙◌, subst, arith, Bool, Some}
 use Rattle.std.proofs.lemmas.Bool.{cases_eq, cases_lt, eq-eqb, ne_eqb}
 use Rattle.std.proofs.lemmas.List.{get_or_past}
@@ -14,8 +14,9 @@ use Rattle.cn_consensus.specs.Types.{all_of}
 use Rattle.cn_consensus.specs.Configuration.{decided_by, decision, initial, perform, put, step}
 use Rattle.cn_consensus.proofs.Alike.{others_stepped, put-same, put-other}
 use Rattle.cn_consensus.proofs.Counting.{hit}
-use Rattle.cn_crashes.specs.Execution.{Event, IsExecution, NeverCrashes, after_execution}
-use Rattle.cn_crashes.specs.Execution.{after_event, after_crash, process_of, steps_of}
+use Rattle.cn_crashes.specs.Execution.{Event, HasDecidedIn, IsExecution, NeverCrashes}
+use Rattle.cn_crashes.specs.Execution.{after_event, after_crash, after_execution, process_of}
+use Rattle.cn_crashes.specs.Execution.{steps_of}
 use Rattle.cn_crashes.specs.Execution.Event.{Step, Crash}
 use Rattle.cn_crashes.specs.RecoverableConsensus.{HasRecoverableAgreement, HasRecoverableValidity}
 use Rattle.cn_crashes.specs.RecoverableConsensus.{IsRecoverableConsensusProtocol}
@@ -231,11 +232,9 @@ module _ (t : TypeTable) (R : RecoverablePlan) (n nodes : ℕ) (team : ℕ → T
         never.1 (omega (arith, same, few))
 
     rank_bound : (g : Ghost) (c : World) → Holds S g c → (p : ℕ) → p < n
-        → rank R p (c.locals p) ≤ 6 * nodes
-    rank_bound g c h p lp =
-        let few = rank_few R p (c.locals p) (λ i x stage e.
-        (subst (LocalHolds S g c.registers p) e (h.local p lp)).0) in
-        omega (arith, few, short p lp)
+        → rank R p (c.locals p) ≤ 6 * length (R.round.path p)
+    rank_bound g c h p lp = rank_few R p (c.locals p) (λ i x stage e.
+        (subst (LocalHolds S g c.registers p) e (h.local p lp)).0)
 
   pub agreement : HasRecoverableAgreement (all_of t) n (recoverable_protocol R)
   agreement inputs es us k m p q x y lp lq d e =
@@ -262,9 +261,11 @@ module _ (t : TypeTable) (R : RecoverablePlan) (n nodes : ℕ) (team : ℕ → T
       (initial (recoverable_protocol R) inputs) es in
       (decided_is inputs a.ghost c.registers p (c.locals p) x (a.holds.local p lp) d).0
 
-  pub in_time : (inputs : ℕ → Bool)
-      → DecidesWithin (all_of t) n (recoverable_protocol R) inputs (6 * nodes)
-  in_time inputs es us k m p lp never often =
+  -- six steps for each place of the path of a process are enough
+  pub on_path : (inputs : ℕ → Bool) (es us : List Event) → IsExecution n es → IsExecution n us
+      → (p : ℕ) → p < n → NeverCrashes p us → 6 * length (R.round.path p) ≤ steps_of p us
+      → (x : Bool) × HasDecidedIn (all_of t) (recoverable_protocol R) inputs (es ++ us) p x
+  on_path inputs es us k m p lp never often =
       (let a = run inputs es (λ v. Fresh) (initial (recoverable_protocol R) inputs)
       (first inputs) k in
       let c = after_execution (all_of t) (recoverable_protocol R) inputs
@@ -279,6 +280,11 @@ module _ (t : TypeTable) (R : RecoverablePlan) (n nodes : ℕ) (team : ℕ → T
             (after_execution-append (all_of t) (recoverable_protocol R) inputs
             (initial (recoverable_protocol R) inputs) es us) ∙ r.1,
       ))
+
+  pub in_time : (inputs : ℕ → Bool)
+      → DecidesWithin (all_of t) n (recoverable_protocol R) inputs (6 * nodes)
+  in_time inputs es us k m p lp never often =
+      on_path inputs es us k m p lp never (omega (arith, often, short p lp))
 
   bounded : IsBoundedRecoverablyWaitFree (all_of t) n (recoverable_protocol R)
   bounded inputs = (6 * nodes, in_time inputs)

@@ -1,6 +1,6 @@
 -- The lives of a recording plan reach consensus in every schedule.
 use Rattle.std.proofs.Common.{◌≡◌, ℕ, ◌*◌, ◌-◌, ◌<◌, ◌≤◌, List, ◌++◌, length, refl, sym, ap}
-use Rattle.std.proofs.Common.{◌∙◌, subst, Bool, false, nat_eq, Option, Some, None}
+use Rattle.std.proofs.Common.{◌∙◌, subst, arith, Bool, false, nat_eq, Option, Some, None}
 use Rattle.std.specs.Prelude.{option_map, slice_index}
 use Rattle.std.proofs.lemmas.Bool.{eq-eqb, eqb-true}
 use Rattle.std.proofs.lemmas.Option.{slice_get-get_or}
@@ -11,7 +11,8 @@ use Rattle.cn_proto.proofs.PlanLemmas.{plan_short, plan_sound}
 use Rattle.cn_agree.specs.Consensus.{IsSchedule}
 use Rattle.cn_consensus.specs.Configuration.{decision, initial}
 use Rattle.cn_consensus.specs.Types.{all_of}
-use Rattle.cn_crashes.specs.Execution.{Event as ModelEvent, HasDecidedIn, after_execution}
+use Rattle.cn_crashes.specs.Execution.{Event as ModelEvent, HasDecidedIn, NeverCrashes}
+use Rattle.cn_crashes.specs.Execution.{after_execution, steps_of}
 use Rattle.cn_crashes.specs.RecoverableConsensus.{HasStrongRecoverableValidity}
 use Rattle.cn_crashes.specs.RecoverableConsensus.{IsRecoverableConsensusProtocol}
 use Rattle.cn_crashes.specs.RecoverableWaitFreedom.{DecidesWithin}
@@ -87,6 +88,24 @@ module _ (p : RecordingPlan) (is : IsRecordingPlan p) (tournaments : Tournaments
         (inputs_of f inputs) xs q (f x)) (execution_of-append es us)
         (decided f (es ++ us) (schedule-append n es us k h) q x lq d)
 
+    -- six steps for each place of its path are enough for a process
+    pub on_path : (es us : List Event) → IsSchedule n (named es) → IsSchedule n (named us)
+        → (q : ℕ) → q < n → NeverCrashes q (execution_of us)
+        → 6 * length ((protocol_of p.plan).path q) ≤ steps_of q (execution_of us)
+        → (x : ℕ) × HasDecided p inputs (es ++ us) q x
+    on_path es us k h q lq never often =
+        (let f : ℕ → Bool = λ v. false in
+        let d = rounds.on_path p.plan.table (recoverable_plan p) n (nodes_of p.plan)
+        (team_of (length p.plan.choice.a)) sound (right p is tournaments) (λ role s. refl)
+        is.is_plan.fits.some (plan_short p.plan is.is_plan) (inputs_of f inputs) (execution_of es)
+        (execution_of us) (execution n es k) (execution n us h) q lq never often in
+        some_value f (decision_at (world_after p inputs (es ++ us)) q) d.0
+        (sym (decision_is f (es ++ us) (schedule-append n es us k h) q lq)
+        ∙ (ap (λ (xs : List ModelEvent). decision (lives_protocol p) (after_execution
+        (all_of p.plan.table) (lives_protocol p) (inputs_of f inputs)
+        (initial (lives_protocol p) (inputs_of f inputs)) xs) q) (execution_of-append es us)
+        ∙ d.1)))
+
     pub consensus : (events : List Event) → IsSchedule n (named events)
         → IsRecoverableConsensus p inputs events
     consensus events k = record {
@@ -114,15 +133,6 @@ module _ (p : RecordingPlan) (is : IsRecordingPlan p) (tournaments : Tournaments
       wait_free = λ es us vs e q lq never often.
           (let parts = schedule_parts n es (us ++ vs)
           (subst (λ (s : List Event). IsSchedule n (named s)) e k) in
-          let ke = parts.0 in
-          let ku = (schedule_parts n us vs parts.1).0 in
-          let f : ℕ → Bool = λ v. false in
-          let d = bound (inputs_of f inputs) (execution_of es) (execution_of us)
-          (execution n es ke) (execution n us ku) q lq never often in
-          some_value f (decision_at (world_after p inputs (es ++ us)) q) d.0
-          (sym (decision_is f (es ++ us) (schedule-append n es us ke ku) q lq)
-          ∙ (ap (λ (xs : List ModelEvent). decision (lives_protocol p) (after_execution
-          (all_of p.plan.table) (lives_protocol p) (inputs_of f inputs)
-          (initial (lives_protocol p) (inputs_of f inputs)) xs) q) (execution_of-append es us)
-          ∙ d.1)));
+          on_path es us parts.0 (schedule_parts n us vs parts.1).0 q lq never
+          (omega (arith, often, plan_short p.plan is.is_plan q lq)));
     }

@@ -2,14 +2,15 @@
 //!
 //! Each law is about every recording plan as data. A plan in memory is one, by the law
 //! [`recording_plans_are_sound`](cn_lives::laws::recording_plans_are_sound).
-ghost use Rattle.std.specs.Prelude.{ℕ, ◌≡◌, ◌<◌, ◌*◌, ◌-◌, Bool, List, Option, length, None};
-ghost use Rattle.cn_proto.specs.Plan.{processes_of};
+ghost use Rattle.std.specs.Prelude.{ℕ, ◌≡◌, ◌<◌, ◌≤◌, ◌*◌, ◌-◌, ◌++◌, Bool, List, Option, length};
+ghost use Rattle.std.specs.Prelude.{None};
+ghost use Rattle.cn_proto.specs.Plan.{processes_of, protocol_of};
 ghost use Rattle.cn_agree.specs.Consensus.{IsSchedule};
 ghost use Rattle.cn_agree.specs.Schedules.{schedule_fault};
 ghost use Rattle.cn_consensus.specs.Configuration.{Configuration, step};
 ghost use Rattle.cn_consensus.specs.Types.{all_of};
-ghost use Rattle.cn_crashes.specs.Execution.{Event as ModelEvent, IsExecution};
-ghost use Rattle.cn_crashes.specs.Execution.{after_crash as crash};
+ghost use Rattle.cn_crashes.specs.Execution.{Event as ModelEvent, IsExecution, NeverCrashes};
+ghost use Rattle.cn_crashes.specs.Execution.{after_crash as crash, steps_of};
 ghost use Rattle.cn_crashes.specs.RecoverableConsensus.{IsRecoverableConsensusProtocol};
 ghost use Rattle.cn_crashes.specs.RecoverableRound.{RecoverableLocal};
 ghost use Rattle.cn_crashes.specs.RecoverableWaitFreedom.{DecidesWithin};
@@ -18,7 +19,7 @@ ghost use Rattle.cn_lives.specs.Runs.{LiveBy, world_after};
 ghost use Rattle.cn_lives.specs.Schedules.{named};
 ghost use Rattle.cn_lives.specs.Steps.{World, after_crash, after_step};
 ghost use Rattle.cn_lives.specs.declared.schedule.Event.{Event};
-ghost use Rattle.cn_life_laws.specs.Consensus.{IsRecoverableConsensus};
+ghost use Rattle.cn_life_laws.specs.Consensus.{HasDecided, IsRecoverableConsensus};
 ghost use Rattle.cn_life_laws.specs.Executions.{execution_of};
 ghost use Rattle.cn_life_laws.specs.Mirrors.{Mirrors, configuration_after, inputs_of};
 ghost use Rattle.cn_life_laws.specs.Mirrors.{lives_protocol};
@@ -88,6 +89,21 @@ pub fn lives_reach_consensus()
         → IsRecordingPlan p
         → schedule_fault (processes_of p.plan) inputs (named schedule) ≡ None
         → IsRecoverableConsensus p inputs schedule }
+{
+    tournaments_are_sound();
+}
+
+/// A process that takes 6 steps for each place of its own path without a crash of its own has
+/// decided. So the texts that tell the [own steps](cn_plan_text::life_steps) of each process say
+/// what every schedule keeps to.
+pub fn lives_end_on_their_paths()
+    // promise: own-steps-of-a-recording-plan (protocol_of, NeverCrashes, steps_of, HasDecided)
+    ensures lives { (p : RecordingPlan) (inputs : List ℕ) (es us : List Event) → IsRecordingPlan p
+        → length inputs ≡ processes_of p.plan → IsSchedule (processes_of p.plan) (named es)
+        → IsSchedule (processes_of p.plan) (named us) → (q : ℕ) → q < processes_of p.plan
+        → NeverCrashes q (execution_of us)
+        → 6 * length ((protocol_of p.plan).path q) ≤ steps_of q (execution_of us)
+        → (x : ℕ) × HasDecided p inputs (es ++ us) q x }
 {
     tournaments_are_sound();
 }
