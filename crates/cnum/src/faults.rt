@@ -110,13 +110,16 @@ pub fn known_of_processes<'a>(table: TextSource<'a>, processes: Option<u8>) -> K
     known
 }
 
-/// What is known of a command of a shortest plan: the same, and whether no process is to read.
+/// What is known of a command of a shortest plan: the same, whether no process is to read, and the
+/// name of the file of the object that a program serves.
 pub fn known_of_plan<'a>(
     table: TextSource<'a>,
+    object: Option<&'a str>,
     processes: Option<u8>,
     without_read: bool,
 ) -> Known<'a> {
-    let mut known = known_of_processes(table, processes);
+    let mut known = Known::of_files(file_of(table), object);
+    known.processes = processes;
     known.without_read = without_read;
     known
 }

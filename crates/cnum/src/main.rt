@@ -109,7 +109,7 @@ fn do_shortest_run<T: Disk + Eprint, I: Read + Copy + Drop, O: Write>(
         (T.contents rt.now) stdin table.entry without_read words.entry output.old output.new
         (exit_status result) }
 {
-    let mut known = known_of_plan(table, words.processes, without_read);
+    let mut known = known_of_plan(table, None, words.processes, without_read);
     let end = run_shortest(
         rt,
         alloc,
@@ -139,8 +139,8 @@ fn do_shortest_plan<T: Disk + Eprint, I: Read + Copy + Drop, O: Write>(
         (T.contents rt.now) stdin table.entry asked words.entry output.old output.new
         (exit_status result) }
 {
-    let mut known = known_of_plan(table, asked.processes, asked.without_read);
-    known.object = file_of_object(words.object);
+    let object = file_of_object(words.object);
+    let mut known = known_of_plan(table, object, asked.processes, asked.without_read);
     let end = show_shortest(rt, alloc, stdin, output, table, asked, words, &mut known);
     command_exit(faults, end, &known)
 }
